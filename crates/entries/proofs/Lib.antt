@@ -1,0 +1,5 @@
+pub mod Orders
+pub mod StateBytes
+pub mod RowBytes
+pub mod Sections
+pub mod Prefixes

@@ -1,0 +1,13 @@
+use native.Mathlib.Omega.{arith}
+use Prim.Native.Nat.{_≤_}
+use lib.ListN.{length}
+use Rattle.std.proofs.shelf.Lists.{take-rest, length-drop}
+use Rattle.std.proofs.shelf.Ways.{tells}
+use Rattle.entries.proofs.row.RowEntry.from_bytes.Needs as need
+
+pub returns : need.returns
+returns c =
+    let n : 25 ≤ length (c .args .bytes .now) = omega (arith, simp (take-rest, length-drop) at (c .if-words .left)) in
+    let v = simp take-rest at (c .word .ensures) in
+    let w = simp take-rest at (c .word-2 .ensures) in
+    grind (arith, tells)

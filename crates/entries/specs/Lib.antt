@@ -1,0 +1,4 @@
+pub mod Sorts
+pub mod States
+pub mod Rows
+pub mod Sections

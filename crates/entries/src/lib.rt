@@ -1,0 +1,5 @@
+//! The entries of a table's sections: how each sort is laid out in bytes and ordered, and the check of a section.
+pub mod entry;
+pub mod row;
+pub mod section;
+pub mod state;

@@ -1,0 +1,4 @@
+pub mod Rows
+pub mod Faults
+pub mod Lists
+pub mod Runs

@@ -1,0 +1,4 @@
+pub mod Opening
+pub mod Places
+pub mod Widths
+pub mod Enough

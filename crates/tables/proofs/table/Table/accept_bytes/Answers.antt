@@ -1,0 +1,22 @@
+use mathlib.Core.Path.{_≡_, ap, _∙_}
+use Prim.Native.Nat.{_+_, _-_}
+use lib.ListN.{take, drop}
+use borrow.Author.Needs.{needs}
+use native.Mathlib.Omega.{arith}
+use Rattle.tables.proofs.Places.{of-view}
+use Rattle.tables.proofs.table.Table.accept_bytes.Needs as need
+
+pub add-begin : need.add-begin
+add-begin c = let p = of-view (c .args .self .now) in search needs
+
+pub add-end : need.add-end
+add-end c = let p = of-view (c .args .self .now) in search needs
+
+pub part-result-end : need.part-result-end
+part-result-end c = let p = of-view (c .args .self .now) in search needs
+
+pub returns : need.returns
+returns c = let p = of-view (c .args .self .now) in
+    let t = c .args .self .now in
+    let n : 4 + t .sizes .starts + t .sizes .accepts - (4 + t .sizes .starts) ≡ t .sizes .accepts = omega arith in
+    ap (λ k. take k (drop (4 + t .sizes .starts) (t .bytes .now))) n ∙ p .accepts
