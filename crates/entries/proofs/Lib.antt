@@ -3,3 +3,4 @@ pub mod StateBytes
 pub mod RowBytes
 pub mod Sections
 pub mod Prefixes
+pub mod Files

@@ -2,3 +2,4 @@ pub mod Sorts
 pub mod States
 pub mod Rows
 pub mod Sections
+pub mod Files

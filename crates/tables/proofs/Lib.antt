@@ -1,4 +1,3 @@
 pub mod Opening
 pub mod Places
 pub mod Widths
-pub mod Enough

@@ -1,70 +1,63 @@
--- Where the sections stand in the bytes of a table.
-use mathlib.Core.Path.{_≡_, refl, ap, sym, _∙_}
-use mathlib.Core.List.{List, [], _∷_, _++_, append-nil}
+-- Where the sections stand in the bytes of a view.
+use mathlib.Core.Path.{_≡_, refl, ap, ap₂, sym, _∙_}
+use mathlib.Core.List.{List, [], _∷_}
 use Prim.Native.Nat.{ℕ, _+_, _*_, _≤_}
 use native.Mathlib.Omega.{arith}
-use lib.ListN.{length, drop, take, length-append}
-use Rattle.std.proofs.shelf.Lists.{drop-drop, drop-at, take-at, length-drop}
+use lib.ListN.{length, drop, take}
 use Rattle.machine.specs.Lists.{Lists}
 use Rattle.entries.specs.States.{states}
 use Rattle.entries.specs.Rows.{rows}
 use Rattle.entries.specs.Sections.{joined}
 use Rattle.entries.proofs.StateBytes.{states-laws}
 use Rattle.entries.proofs.RowBytes.{rows-laws}
-use Rattle.entries.proofs.Sections.{length-joined}
-use Rattle.tables.specs.declared.table.Sizes.{Sizes}
+use Rattle.entries.proofs.Files as files
 use Rattle.tables.specs.declared.table.Table.{Table}
-use Rattle.tables.specs.Tables.{open-table, lists-of, shows}
-use Rattle.tables.specs.Facts.{Sections, sections-of, shown}
-use mathlib.Core.Bool.{true}
+use Rattle.tables.specs.Tables.{table-layout, lists-of}
+use Rattle.tables.specs.Facts.{view}
 
 -- The bytes of states are the states.
 own : (ss : List ℕ) → joined (states .encode) ss ≡ ss
 own [] = refl
 own (s ∷ ss) = ap (λ xs. s ∷ xs) (own ss)
 
-module _ (bs : List ℕ) (z : Sizes) (h : shows (open-table bs) z ≡ true) where
-  pub record Places : Type 0 where
-    pub few-starts : z .starts ≤ 256
-    pub few-accepts : z .accepts ≤ 256
-    pub few-rows : z .rows ≤ 1024
-    pub starts-end : 2 + z .starts ≤ length bs
-    pub accepts-end : 4 + z .starts + z .accepts ≤ length bs
-    pub rows-begin : 6 + z .starts + z .accepts ≤ length bs
-    pub starts : take (z .starts) (drop 2 bs) ≡ lists-of bs .starts
-    pub accepts : take (z .accepts) (drop (4 + z .starts) bs) ≡ lists-of bs .accepts
-    pub rows : drop (6 + z .starts + z .accepts) bs ≡ joined (rows .encode) (lists-of bs .rows)
+pub record Places (t : Table) : Type 0 where
+  pub few-starts : t .sizes .first ≤ 256
+  pub few-accepts : t .sizes .second ≤ 256
+  pub few-rows : t .sizes .third ≤ 1024
+  pub count-starts : length (lists-of (t .bytes .now) .starts) ≡ t .sizes .first
+  pub count-accepts : length (lists-of (t .bytes .now) .accepts) ≡ t .sizes .second
+  pub count-rows : length (lists-of (t .bytes .now) .rows) ≡ t .sizes .third
+  pub starts-end : 2 + t .sizes .first ≤ length (t .bytes .now)
+  pub accepts-end : 4 + t .sizes .first + t .sizes .second ≤ length (t .bytes .now)
+  pub rows-begin : 6 + t .sizes .first + t .sizes .second ≤ length (t .bytes .now)
+  pub starts : take (t .sizes .first) (drop 2 (t .bytes .now)) ≡ lists-of (t .bytes .now) .starts
+  pub accepts : take (t .sizes .second) (drop (4 + t .sizes .first) (t .bytes .now)) ≡ lists-of (t .bytes .now) .accepts
+  pub rows : drop (6 + t .sizes .first + t .sizes .second) (t .bytes .now) ≡ joined (rows .encode) (lists-of (t .bytes .now) .rows)
 
-  pub places : Places
-  places =
-      let s = sections-of bs z h in
-      let k = shown bs z h in
-      let a = s .starts in
-      let b = s .accepts in
-      let c = s .rows in
-      let ss : List ℕ = lists-of bs .starts in
-      let fs : List ℕ = lists-of bs .accepts in
-      let p : drop 2 bs ≡ ss ++ s .after-starts = a .bytes ∙ ap (λ x. x ++ s .after-starts) (own ss) in
-      let q : drop 2 (s .after-starts) ≡ fs ++ s .after-accepts = b .bytes ∙ ap (λ x. x ++ s .after-accepts) (own fs) in
-      let r : drop 2 (s .after-accepts) ≡ joined (rows .encode) (lists-of bs .rows) = c .bytes ∙ append-nil (joined (rows .encode) (lists-of bs .rows)) in
-      let lp = simp (length-drop, length-append) at (ap length p) in
-      let lq = simp (length-drop, length-append) at (ap length q) in
-      let r₁ : drop (2 + z .starts) bs ≡ s .after-starts = sym (drop-drop (z .starts) 2 bs) ∙ ap (drop (z .starts)) p ∙ drop-at ss (s .after-starts) (z .starts) (k .starts) in
-      let e₁ : 2 + z .starts + 2 ≡ 4 + z .starts = omega arith in
-      let d₁ : drop (4 + z .starts) bs ≡ fs ++ s .after-accepts = ap (λ n. drop n bs) (sym e₁) ∙ sym (drop-drop 2 (2 + z .starts) bs) ∙ ap (drop 2) r₁ ∙ q in
-      let r₂ : drop (4 + z .starts + z .accepts) bs ≡ s .after-accepts = sym (drop-drop (z .accepts) (4 + z .starts) bs) ∙ ap (drop (z .accepts)) d₁ ∙ drop-at fs (s .after-accepts) (z .accepts) (k .accepts) in
-      let e₂ : 4 + z .starts + z .accepts + 2 ≡ 6 + z .starts + z .accepts = omega arith in
-      record {
-        few-starts = omega (arith, k .starts, a .lawful .few);
-        few-accepts = omega (arith, k .accepts, b .lawful .few);
-        few-rows = omega (arith, k .rows, c .lawful .few);
-        starts-end = omega (arith, lp, lq, k .starts, k .accepts, a .long, b .long, c .long);
-        accepts-end = omega (arith, lp, lq, k .starts, k .accepts, a .long, b .long, c .long);
-        rows-begin = omega (arith, lp, lq, k .starts, k .accepts, a .long, b .long, c .long);
-        starts = ap (take (z .starts)) p ∙ take-at ss (s .after-starts) (z .starts) (k .starts);
-        accepts = ap (take (z .accepts)) d₁ ∙ take-at fs (s .after-accepts) (z .accepts) (k .accepts);
-        rows = ap (λ n. drop n bs) (sym e₂) ∙ sym (drop-drop 2 (4 + z .starts + z .accepts) bs) ∙ ap (drop 2) r₂ ∙ r;
-      }
-
-pub of-view : (t : Table) → Places (t .bytes .now) (t .sizes) (t .lawful)
-of-view t = places (t .bytes .now) (t .sizes) (t .lawful)
+pub places : (t : Table) → Places t
+places t =
+    let bs : List ℕ = t .bytes .now in
+    let v = view bs (t .sizes) (t .lawful) in
+    let k = v .shown in
+    let p = files.places table-layout states-laws states-laws rows-laws bs (t .sizes) (v .content) k in
+    let m : Lists = lists-of bs in
+    let e = v .lists in
+    let i : 1 * t .sizes .first ≡ t .sizes .first = omega arith in
+    let j : 1 * t .sizes .second ≡ t .sizes .second = omega arith in
+    let es = ap (λ (x : Lists). x .starts) e in
+    let ef = ap (λ (x : Lists). x .accepts) e in
+    let er = ap (λ (x : Lists). x .rows) e in
+    record {
+      few-starts = omega (arith, k .first, v .lawful .first .few);
+      few-accepts = omega (arith, k .second, v .lawful .second .few);
+      few-rows = omega (arith, k .third, v .lawful .third .few);
+      count-starts = ap length es ∙ k .first;
+      count-accepts = ap length ef ∙ k .second;
+      count-rows = ap length er ∙ k .third;
+      starts-end = omega (arith, p .first-end);
+      accepts-end = omega (arith, p .second-end);
+      rows-begin = omega (arith, p .third-begin);
+      starts = ap (λ n. take n (drop 2 bs)) (sym i) ∙ p .first ∙ own (v .content .first) ∙ sym es;
+      accepts = ap₂ {C = List ℕ} (λ n d. take n (drop (4 + d) bs)) (sym j) (sym i) ∙ p .second ∙ own (v .content .second) ∙ sym ef;
+      rows = ap₂ {C = List ℕ} (λ n d. drop (6 + n + d) bs) (sym i) (sym j) ∙ p .third ∙ ap (joined (rows .encode)) (sym er);
+    }

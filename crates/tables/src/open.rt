@@ -1,20 +1,18 @@
 //! Opening a table: one pass over the bytes, and no memory.
 ghost use mathlib.Core.Path.{_≡_};
-ghost use mathlib.Core.Bool.{true};
 ghost use mathlib.Core.List.{List, [], _∷_};
 ghost use Prim.Native.Nat.{ℕ};
 ghost use lib.ListN.{take};
 ghost use Rattle.std.specs.Results.{Cases};
 ghost use Rattle.std.specs.declared.result.Result.the-variants.{Ok, Err};
 ghost use Rattle.machine.specs.Lists.{Lists};
-ghost use Rattle.tables.specs.Tables.{open-table, lists-of, shows, LawfulTable, encode-table, TableLaws};
-use crate::table::Sizes;
+ghost use Rattle.tables.specs.Tables.{open-table, lists-of, LawfulTable, encode-table, TableLaws};
 use crate::table::Table;
+use entries::file::read_file;
 use entries::row::RowEntry;
-use entries::section::read_section;
+use entries::sizes::Sizes;
 use entries::state::StateEntry;
 use machine::fault::Fault;
-use machine::fault::Rule;
 use machine::row::Row;
 
 const MOST_STARTS: usize = 256;
@@ -28,23 +26,6 @@ const LONGEST: usize = 6 + MOST_STARTS + MOST_ACCEPTS + 25 * MOST_ROWS;
 
 static NO_ENTRIES: [u8; 6] = [0; 6];
 
-// The sizes of a lawful table's sections, or the first fault.
-fn check(bytes: &[u8]) -> Result<Sizes, Fault>
-    ensures { λ r. ⌜ Cases r (λ z. shows (open-table (now (bytes .entry))) z ≡ true) (λ f. open-table (now (bytes .entry)) ≡ Err f) ⌝ }
-{
-    let starts = read_section::<u8>(bytes, 1, MOST_STARTS)?;
-    let accepts = read_section::<u8>(starts.rest, 2, MOST_ACCEPTS)?;
-    let rows = read_section::<Row>(accepts.rest, 3, MOST_ROWS)?;
-    if !rows.rest.is_empty() {
-        return Err(Rule::Rest.at(3, rows.count));
-    }
-    Ok(Sizes {
-        starts: starts.count,
-        accepts: accepts.count,
-        rows: rows.count,
-    })
-}
-
 impl<'a> Table<'a> {
     // The view that is there from the beginning: six zero bytes, a table of no entries.
     pub fn empty() -> Table<'a>
@@ -53,9 +34,9 @@ impl<'a> Table<'a> {
         Table {
             bytes: &NO_ENTRIES,
             sizes: Sizes {
-                starts: 0,
-                accepts: 0,
-                rows: 0,
+                first: 0,
+                second: 0,
+                third: 0,
             },
         }
     }
@@ -66,7 +47,7 @@ impl<'a> Table<'a> {
         ensures encoding { λ r. ⌜ Cases r (λ _. LawfulTable (lists-of (now (bytes .entry))) × (now (bytes .entry) ≡ encode-table (lists-of (now (bytes .entry))))) (λ _. Unit {0}) ⌝ }
         ensures laws { λ _. ⌜ TableLaws ⌝ }
     {
-        let sizes = check(bytes)?;
+        let sizes = read_file::<u8, u8, Row>(bytes, MOST_STARTS, MOST_ACCEPTS, MOST_ROWS)?;
         *self = Table { bytes, sizes };
         Ok(())
     }

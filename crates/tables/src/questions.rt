@@ -18,22 +18,22 @@ impl Table<'_> {
     fn start_bytes(&self) -> &[u8]
         ensures { λ r. ⌜ now r ≡ lists-of (now (now (self .entry) .bytes)) .starts ⌝ }
     {
-        let end = 2 + self.sizes.starts;
+        let end = 2 + self.sizes.first;
         &self.bytes[2..end]
     }
 
     fn accept_bytes(&self) -> &[u8]
         ensures { λ r. ⌜ now r ≡ lists-of (now (now (self .entry) .bytes)) .accepts ⌝ }
     {
-        let begin = 4 + self.sizes.starts;
-        let end = begin + self.sizes.accepts;
+        let begin = 4 + self.sizes.first;
+        let end = begin + self.sizes.second;
         &self.bytes[begin..end]
     }
 
     fn row_bytes(&self) -> &[u8]
         ensures { λ r. ⌜ now r ≡ joined row-bytes (lists-of (now (now (self .entry) .bytes)) .rows) ⌝ }
     {
-        let begin = 6 + self.sizes.starts + self.sizes.accepts;
+        let begin = 6 + self.sizes.first + self.sizes.second;
         &self.bytes[begin..]
     }
 }
@@ -75,7 +75,7 @@ pub impl Machine for Table<'_> as TableMachine {
     fn width(&self) -> usize {
         let states = above_states(self.start_bytes()).max(above_states(self.accept_bytes()));
         let mut width = states;
-        for place in 0..self.sizes.rows {
+        for place in 0..self.sizes.third {
             let row = self.row(place);
             width = width
                 .max(usize::from(row.from) + 1)
@@ -85,7 +85,7 @@ pub impl Machine for Table<'_> as TableMachine {
     }
 
     fn start_count(&self) -> usize {
-        self.sizes.starts
+        self.sizes.first
     }
 
     fn start(&self, place: usize) -> u8 {
@@ -93,7 +93,7 @@ pub impl Machine for Table<'_> as TableMachine {
     }
 
     fn accept_count(&self) -> usize {
-        self.sizes.accepts
+        self.sizes.second
     }
 
     fn accept(&self, place: usize) -> u8 {
@@ -101,7 +101,7 @@ pub impl Machine for Table<'_> as TableMachine {
     }
 
     fn row_count(&self) -> usize {
-        self.sizes.rows
+        self.sizes.third
     }
 
     fn row(&self, place: usize) -> Row {

@@ -3,20 +3,20 @@ use Prim.Native.Nat.{_+_, _-_}
 use lib.ListN.{take, drop}
 use borrow.Author.Needs.{needs}
 use native.Mathlib.Omega.{arith}
-use Rattle.tables.proofs.Places.{of-view}
+use Rattle.tables.proofs.Places.{places}
 use Rattle.tables.proofs.table.Table.accept_bytes.Needs as need
 
 pub add-begin : need.add-begin
-add-begin c = let p = of-view (c .args .self .now) in search needs
+add-begin c = let p = places (c .args .self .now) in search needs
 
 pub add-end : need.add-end
-add-end c = let p = of-view (c .args .self .now) in search needs
+add-end c = let p = places (c .args .self .now) in search needs
 
 pub part-result-end : need.part-result-end
-part-result-end c = let p = of-view (c .args .self .now) in search needs
+part-result-end c = let p = places (c .args .self .now) in search needs
 
 pub returns : need.returns
-returns c = let p = of-view (c .args .self .now) in
+returns c = let p = places (c .args .self .now) in
     let t = c .args .self .now in
-    let n : 4 + t .sizes .starts + t .sizes .accepts - (4 + t .sizes .starts) ≡ t .sizes .accepts = omega arith in
-    ap (λ k. take k (drop (4 + t .sizes .starts) (t .bytes .now))) n ∙ p .accepts
+    let n : 4 + t .sizes .first + t .sizes .second - (4 + t .sizes .first) ≡ t .sizes .second = omega arith in
+    ap (λ k. take k (drop (4 + t .sizes .first) (t .bytes .now))) n ∙ p .accepts

@@ -1,7 +1,7 @@
 use mathlib.Core.Path.{refl}
-use Rattle.tables.specs.Tables.{open-table}
+use Rattle.entries.specs.Files.{read-file}
 use Rattle.tables.proofs.table.Table.empty.Needs as need
 
 pub ghost-result : need.ghost-result
-unfolding open-table
+unfolding read-file
 ghost-result c = (refl, tt)

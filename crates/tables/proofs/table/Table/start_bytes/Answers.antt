@@ -3,17 +3,17 @@ use Prim.Native.Nat.{_+_, _-_}
 use lib.ListN.{take, drop}
 use borrow.Author.Needs.{needs}
 use native.Mathlib.Omega.{arith}
-use Rattle.tables.proofs.Places.{of-view}
+use Rattle.tables.proofs.Places.{places}
 use Rattle.tables.proofs.table.Table.start_bytes.Needs as need
 
 pub add-end : need.add-end
-add-end c = let p = of-view (c .args .self .now) in search needs
+add-end c = let p = places (c .args .self .now) in search needs
 
 pub part-result-end : need.part-result-end
-part-result-end c = let p = of-view (c .args .self .now) in search needs
+part-result-end c = let p = places (c .args .self .now) in search needs
 
 pub returns : need.returns
-returns c = let p = of-view (c .args .self .now) in
+returns c = let p = places (c .args .self .now) in
     let t = c .args .self .now in
-    let n : 2 + t .sizes .starts - 2 ≡ t .sizes .starts = omega arith in
+    let n : 2 + t .sizes .first - 2 ≡ t .sizes .first = omega arith in
     ap (λ k. take k (drop 2 (t .bytes .now))) n ∙ p .starts

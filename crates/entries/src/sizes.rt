@@ -1,0 +1,7 @@
+//! How many entries each section of a file has.
+#[derive(Clone, Copy)]
+pub struct Sizes {
+    pub first: usize,
+    pub second: usize,
+    pub third: usize,
+}
