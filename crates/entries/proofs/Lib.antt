@@ -4,3 +4,4 @@ pub mod RowBytes
 pub mod Sections
 pub mod Prefixes
 pub mod Files
+pub mod Outputs

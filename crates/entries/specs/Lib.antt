@@ -3,3 +3,4 @@ pub mod States
 pub mod Rows
 pub mod Sections
 pub mod Files
+pub mod Outputs

@@ -1,5 +1,6 @@
 //! What an entry of a section is: a fixed number of bytes, limits, and a total order.
 ghost use mathlib.Core.Path.{_≡_};
+ghost use Rattle.entries.specs.Outputs.{Wrote};
 ghost use Rattle.entries.specs.Sorts.{Sort, Laws, entry-at};
 use std::cmp::Ordering;
 
@@ -25,4 +26,8 @@ pub trait Entry: Copy {
     // Whether the entry is below, equal to or above the other.
     fn compare(&self, other: &Self) -> Ordering
         ensures { λ r. ⌜ r ≡ sort .rank (now (self .entry)) (now (other .entry)) ⌝ };
+
+    // Writes the entry's bytes from a place on, or nothing where they do not fit; answers whether they fit.
+    fn write(&self, out: &mut [u8], at: usize) -> bool
+        ensures { λ r. ⌜ Wrote (sort .encode (now (self .entry))) at (now (out .entry)) (now (out .exit)) r ⌝ };
 }

@@ -1,4 +1,5 @@
 //! The entries of a table's sections: how each sort is laid out in bytes and ordered, and the check of a section.
+pub mod bytes;
 pub mod entry;
 pub mod file;
 pub mod row;

@@ -4,14 +4,17 @@ ghost use mathlib.Core.Bool.{true};
 ghost use Prim.Native.Nat.{_+_, _≤_};
 ghost use lib.ListN.{length, take, drop};
 ghost use Rattle.entries.specs.Sorts.{Sort, Laws, entry-at, lexical};
-ghost use Rattle.entries.specs.Rows.{rows, word-of};
+ghost use Rattle.entries.specs.Rows.{rows, word-of, row-bytes};
 ghost use Rattle.machine.specs.Rows.{lawful-row};
+use crate::bytes::put_bytes;
 use crate::entry::Entry;
 use machine::row::Row;
 use machine::row::Word;
 use std::cmp::Ordering;
 
 const WORD: usize = 10;
+
+const ROW: usize = 25;
 
 // A word of the given length, in ten bytes.
 fn word(len: u8, bytes: &[u8]) -> Word
@@ -23,11 +26,26 @@ fn word(len: u8, bytes: &[u8]) -> Word
     Word { len, symbols }
 }
 
+// The 25 bytes of a row.
+fn bytes_of(row: &Row) -> [u8; ROW]
+    ensures { λ r. ⌜ r ≡ row-bytes (now (row .entry)) ⌝ }
+{
+    let mut bytes = [0; ROW];
+    bytes[0] = row.from;
+    bytes[1] = row.letter;
+    bytes[2] = row.to;
+    bytes[3] = row.popped.len;
+    bytes[4] = row.pushed.len;
+    bytes[5..15].copy_from_slice(&row.popped.symbols);
+    bytes[15..25].copy_from_slice(&row.pushed.symbols);
+    bytes
+}
+
 pub impl Entry for Row as RowEntry {
     ghost sort = { rows };
 
     fn width() -> usize {
-        5 + 2 * WORD
+        ROW
     }
 
     fn from_bytes(bytes: &[u8]) -> Option<Row> {
@@ -73,5 +91,9 @@ pub impl Entry for Row as RowEntry {
             .cmp(&others)
             .then(self.popped.symbols.cmp(&other.popped.symbols))
             .then(self.pushed.symbols.cmp(&other.pushed.symbols))
+    }
+
+    fn write(&self, out: &mut [u8], at: usize) -> bool {
+        put_bytes(out, at, &bytes_of(self))
     }
 }

@@ -2,6 +2,7 @@
 ghost use mathlib.Core.Path.{_≡_};
 ghost use Rattle.entries.specs.Sorts.{Sort, Laws, entry-at};
 ghost use Rattle.entries.specs.States.{states};
+use crate::bytes::put_bytes;
 use crate::entry::Entry;
 use std::cmp::Ordering;
 
@@ -26,5 +27,9 @@ pub impl Entry for u8 as StateEntry {
 
     fn compare(&self, other: &u8) -> Ordering {
         self.cmp(other)
+    }
+
+    fn write(&self, out: &mut [u8], at: usize) -> bool {
+        put_bytes(out, at, &[*self])
     }
 }

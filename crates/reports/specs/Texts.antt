@@ -11,6 +11,8 @@ use Rattle.machine.specs.declared.fault.Fault.{Fault}
 use Rattle.machine.specs.Rows.{pops, pushes}
 use Rattle.machine.specs.Faults.{number}
 use Rattle.machine.specs.Lists.{Lists, width-of}
+use Rattle.grammars.specs.Grammars.{GrammarLists}
+use Rattle.grammars.specs.Machines.{machine-of}
 
 -- Each number after a space.
 abbrev pub spaced : List ℕ → List ℕ
@@ -60,7 +62,11 @@ fault-text f =
     ++ codes " " ++ decimal (f .place)
     ++ codes "\n"
 
--- What came of opening.
+-- What came of opening a table, and of opening a grammar.
 abbrev pub opening-text : Result Lists Fault → List ℕ
 opening-text (Ok m) = machine-text m
 opening-text (Err f) = fault-text f
+
+abbrev pub grammar-opening-text : Result GrammarLists Fault → List ℕ
+grammar-opening-text (Ok g) = machine-text (machine-of g)
+grammar-opening-text (Err f) = fault-text f

@@ -1,0 +1,9 @@
+pub mod Symbols
+pub mod SymbolLaws
+pub mod Productions
+pub mod ProductionLaws
+pub mod Grammars
+pub mod Machines
+pub mod Parts
+pub mod RowLimits
+pub mod Facts

@@ -1,0 +1,5 @@
+pub mod Puts
+pub mod Ascents
+pub mod Histories
+pub mod Finishing
+pub mod Calls
