@@ -24,13 +24,13 @@ use Rattle.writing.specs.Histories.{Writing, WritingAccepts, WritingRows, afte
 use Rattle.writing.proofs.Histories.{history, welcome, moved}
 
 -- the bytes of the sections that are done and the later counts have at least four bytes
-none-counts : 4 ≤ 0 + 2 * 2
+pub none-counts : 4 ≤ 0 + 2 * 2
 none-counts = omega arith
 
-one-counts : (ss : List ℕ) → 4 ≤ length (section-bytes states ss) + 2 * 1
+pub one-counts : (ss : List ℕ) → 4 ≤ length (section-bytes states ss) + 2 * 1
 one-counts ss = omega arith
 
-two-counts : (ss fs : List ℕ) → 4 ≤ length (section-bytes states ss ++ section-bytes states fs) + 2 * 0
+pub two-counts : (ss fs : List ℕ) → 4 ≤ length (section-bytes states ss ++ section-bytes states fs) + 2 * 0
 two-counts ss fs = let l = length-append (section-bytes states ss) (section-bytes states fs) in omega arith
 
 module _ (old ss : List ℕ) (s : Stage ℕ) (out : List ℕ) (w : Writing states starts-kind old [] ss s out) where

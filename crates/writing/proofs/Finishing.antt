@@ -21,14 +21,8 @@ use Rattle.tables.proofs.Opening.{laws}
 use Rattle.writing.specs.declared.stages.RowsStage.{RowsStage}
 use Rattle.writing.specs.Stages.{rows-kind, end-of, count-fits, closed}
 use Rattle.writing.specs.Histories.{WritingRows, Finished, table-of}
+use Rattle.writing.proofs.Ascents.{all-take}
 use Rattle.writing.proofs.Histories.{whole, unchanged, answer-long, answer-short}
-
-all-take : (ok : ℕ → Bool) (n : ℕ) (xs : List ℕ) → all ok xs ≡ true → all ok (take n xs) ≡ true
-all-take ok zero xs h = refl
-all-take ok (suc n) [] h = refl
-all-take ok (suc n) (x ∷ xs) h =
-    let p = and-parts (ok x) (all ok xs) h in
-    and-from (ok x) (all ok (take n xs)) (p .0) (all-take ok n xs (p .1))
 
 module _ (old ss fs : List ℕ) (rs : List Row) (s : RowsStage) (out new : List ℕ) (n : ℕ) (w : WritingRows old ss fs rs s out)
     (by : new ≡ closed rows-kind (s .stage) out) (size : n ≡ cond (count-fits rows-kind (s .stage) (length out)) (end-of rows (s .stage)) 0) where

@@ -22,19 +22,19 @@ use entries::state::StateEntry;
 use machine::fault::Fault;
 use machine::row::Row;
 
-const STARTS: Kind = Kind {
+pub(crate) const STARTS: Kind = Kind {
     section: 1,
     most: 256,
     later: 2,
 };
 
-const ACCEPTS: Kind = Kind {
+pub(crate) const ACCEPTS: Kind = Kind {
     section: 2,
     most: 256,
     later: 1,
 };
 
-const ROWS: Kind = Kind {
+pub(crate) const ROWS: Kind = Kind {
     section: 3,
     most: 1024,
     later: 0,
