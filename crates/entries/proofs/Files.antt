@@ -9,8 +9,8 @@ use Rattle.machine.specs.Faults.{fault}
 use Rattle.machine.specs.Rows.{is_byte}
 use Rattle.machine.specs.Lists.{all}
 use Rattle.entries.specs.declared.sizes.Sizes.{Sizes}
-use Rattle.entries.specs.Sorts.{Sort, Laws}
-use Rattle.entries.specs.Sections.{and_then, Read, read_section, holding, entries, joined, section_bytes, Lawful}
+use Rattle.entries.specs.Sorts.{Laws}
+use Rattle.entries.specs.Sections.{and_then, Read, read_section, holding, entries, joined, section_bytes}
 use Rattle.entries.specs.Files.{Layout, Content, read_file, LawfulFile, encode_file, FileLaws, shows}
 use Rattle.entries.proofs.Sections.{length-entries, length-joined, section_given, section_parts, Parts, parts_bytes}
 use Rattle.entries.proofs.Prefixes.{Near, stopped, read, near_section}

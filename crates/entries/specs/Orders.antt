@@ -1,10 +1,10 @@
 -- Total orders: of numbers, of lists by their first difference, and by one part after another.
-use Rattle.std.specs.Prelude.{◌≡◌, ℕ, ◌+◌, ◌<◌, ◌≤◌, Bool, true, false, cond, ltb, List, [], ◌∷◌, ◌++◌, length, refl}
+use Rattle.std.specs.Prelude.{◌≡◌, ℕ, List, [], ◌∷◌, ◌++◌, length, refl}
 use Rattle.std.specs.declared.cmp.Ordering.TheVariants.{Less, Equal, Greater}
 use Rattle.std.specs.declared.cmp.Ordering.{Ordering}
 use Rattle.std.proofs.Common.{sym, ap, ap₂, ◌∙◌, arith}
-use Rattle.std.specs.Ordering.{ordering_reverse, ordering_then, MatchOrdering}
-use Rattle.std.specs.Cmp.Lexicographic.{Lex}
+use Rattle.std.specs.Ordering.{ordering_reverse, ordering_then, nat_cmp}
+use Rattle.std.specs.Cmp.Lexicographic.{slice_cmp}
 use Rattle.std.proofs.lemmas.Bool.Decides.{nat_tests}
 use Rattle.entries.specs.Sorts.{numbers, lexical}
 
@@ -96,20 +96,12 @@ lexical-append (x ∷ xs) (y ∷ ys) us vs h =
     let n : length xs ≡ length ys = omega arith in
     ap (ordering_then (numbers x y)) (lexical-append xs ys us vs n) ∙ sym (then_assoc (numbers x y) (lexical xs ys) (lexical us vs))
 
-by_number : (x y : ℕ) (o : Ordering) → MatchOrdering o (x < y) (x ≡ y) (y < x) → o ≡ numbers x y
-by_number x y Less h = grind (arith, nat_tests)
-by_number x y Equal h = grind (arith, nat_tests)
-by_number x y Greater h = grind (arith, nat_tests)
-
-ranked_then : (o r w : Ordering) (Q : Type 0) → (Q → r ≡ w) → MatchOrdering o (r ≡ Less) Q (r ≡ Greater) → r ≡ ordering_then o w
-ranked_then Less r w Q f h = h
-ranked_then Equal r w Q f h = f h
-ranked_then Greater r w Q f h = h
+by_number : (x y : ℕ) → nat_cmp x y ≡ numbers x y
+by_number x y = grind (arith, nat_tests)
 
 -- What `cmp` answers of two arrays of bytes.
-pub lexical_from_cmp : (xs ys : List ℕ) (r : Ordering) → Lex (λ a b k. MatchOrdering k (a < b) (a ≡ b) (b < a)) xs ys r → r ≡ lexical xs ys
-lexical_from_cmp [] [] r h = h
-lexical_from_cmp [] (y ∷ ys) r h = h
-lexical_from_cmp (x ∷ xs) [] r h = h
-lexical_from_cmp (x ∷ xs) (y ∷ ys) r (o, p, q) =
-    ranked_then o r (lexical xs ys) _ (lexical_from_cmp xs ys r) q ∙ ap (λ k. ordering_then k (lexical xs ys)) (by_number x y o p)
+pub lexical_from_cmp : (xs ys : List ℕ) → slice_cmp nat_cmp xs ys ≡ lexical xs ys
+lexical_from_cmp [] [] = refl
+lexical_from_cmp [] (y ∷ ys) = refl
+lexical_from_cmp (x ∷ xs) [] = refl
+lexical_from_cmp (x ∷ xs) (y ∷ ys) = ap₂ {C = Ordering} ordering_then (by_number x y) (lexical_from_cmp xs ys)

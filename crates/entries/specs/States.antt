@@ -1,5 +1,5 @@
 -- States as entries: one byte.
-use Rattle.std.specs.Prelude.{ℕ, List, [], ◌∷◌, slice_index}
+use Rattle.std.specs.Prelude.{ℕ, [], ◌∷◌, slice_index}
 use Rattle.machine.specs.Rows.{is_byte}
 use Rattle.entries.specs.Sorts.{Sort, numbers}
 

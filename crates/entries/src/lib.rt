@@ -1,4 +1,6 @@
 //! The entries of a table's sections: how each sort is laid out in bytes and ordered, and the check of a section.
+#![tactic(auto)]
+
 pub mod bytes;
 pub mod entry;
 pub mod file;

@@ -16,7 +16,7 @@ pub struct Section<'a> {
 
 // The entry in the first bytes: whole, then within its limits.
 fn read_entry<T: Entry>(bytes: &[u8], section: u8, place: usize) -> Result<T, Fault>
-    ensures { result ≡ read_entry sort section place bytes.now }
+    ensures { result ≡ read_entry T.sort section place bytes.now }
 {
     let Some(entry) = T::from_bytes(bytes) else {
         return Err(Rule::Short.at(section, place));
@@ -28,15 +28,15 @@ fn read_entry<T: Entry>(bytes: &[u8], section: u8, place: usize) -> Result<T, Fa
 }
 
 fn is_below<T: Entry>(before: &T, entry: &T) -> bool
-    ensures { result ≡ is_lt (sort.rank before.now entry.now) }
+    ensures { result ≡ is_lt (T.sort.rank before.now entry.now) }
 {
     before.compare(entry).is_lt()
 }
 
 // The bytes past the first `count` entries, each whole, lawful and above the one before; or the first fault.
 pub fn check_entries<T: Entry>(bytes: &[u8], section: u8, count: usize) -> Result<&[u8], Fault>
-    ensures outcome { MatchResult result (λ rest. read_entries sort section 0 None count bytes.now ≡ Ok rest.now) (λ f. read_entries sort section 0 None count bytes.now ≡ Err f) }
-    ensures ascends { OnOk result (Ascending sort (entries sort count bytes.now)) }
+    ensures outcome { MatchResult result (λ rest. read_entries T.sort section 0 None count bytes.now ≡ Ok rest.now) (λ f. read_entries T.sort section 0 None count bytes.now ≡ Err f) }
+    ensures ascends { OnOk result (Ascending T.sort (entries T.sort count bytes.now)) }
 {
     let width = T::width();
     let mut rest = bytes;
@@ -69,8 +69,8 @@ fn read_count(bytes: &[u8], section: u8, most: usize) -> Result<usize, Fault>
 
 // A section of at most `most` entries: its count, then its entries; or the first fault.
 pub fn read_section<T: Entry>(bytes: &[u8], section: u8, most: usize) -> Result<Section<'_>, Fault>
-    ensures outcome { MatchResult result (λ s. read_section sort section most bytes.now ≡ Ok (holding sort s.count bytes.now s.rest.now)) (λ f. read_section sort section most bytes.now ≡ Err f) }
-    ensures lawful { IfOk result (λ s. Lawful sort most (entries sort s.count (drop 2 bytes.now)) × (bytes.now ≡ section_bytes sort (entries sort s.count (drop 2 bytes.now)) ++ s.rest.now)) }
+    ensures outcome { MatchResult result (λ s. read_section T.sort section most bytes.now ≡ Ok (holding T.sort s.count bytes.now s.rest.now)) (λ f. read_section T.sort section most bytes.now ≡ Err f) }
+    ensures lawful { IfOk result (λ s. Lawful T.sort most (entries T.sort s.count (drop 2 bytes.now)) × (bytes.now ≡ section_bytes T.sort (entries T.sort s.count (drop 2 bytes.now)) ++ s.rest.now)) }
 {
     let count = read_count(bytes, section, most)?;
     let rest = check_entries::<T>(&bytes[2..], section, count)?;
@@ -79,7 +79,7 @@ pub fn read_section<T: Entry>(bytes: &[u8], section: u8, most: usize) -> Result<
 
 // The entry at a place of a section's bytes, lawful or not; none where they end before it is whole.
 pub fn entry_in<T: Entry>(bytes: &[u8], place: usize) -> Option<T>
-    ensures { result ≡ entry_at sort (drop (sort.wide * place) bytes.now) }
+    ensures { result ≡ entry_at T.sort (drop (T.sort.wide * place) bytes.now) }
 {
     let Some(at) = T::width().checked_mul(place) else {
         return None;

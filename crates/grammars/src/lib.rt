@@ -1,4 +1,6 @@
 //! Grammars: opening bytes into a view, and the view as a machine.
+#![tactic(auto)]
+
 pub mod grammar;
 pub mod open;
 mod parts;

@@ -1,4 +1,6 @@
 //! The listing of a machine's marks: a line for each row, and a line that sums them up.
+#![tactic(auto)]
+
 mod lengths;
 mod lines;
 mod numbers;

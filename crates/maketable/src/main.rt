@@ -1,5 +1,7 @@
 //! Writes the table that the text on standard input tells, in the form in which `tableinfo` prints one; or a line that
 //! says why not. No table begins with the bytes of such a line.
+#![tactic(auto)]
+
 use anyhow::anyhow;
 use reports::faults::fault_text;
 use std::io::Read;

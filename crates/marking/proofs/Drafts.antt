@@ -67,7 +67,7 @@ module _ (labels nexts : List ℕ) where
         let c = word_cell base r.to r.to [] (pushes r) y k in
         let f : get_or (ws ++ row_cells more rs) y (plain 0) ≡ get_or ws y (plain 0) = get_or_append_left ws (row_cells more rs) (plain 0) y (omega arith) in
         subst (λ v. Is v (get_or labels (base + y) 0) (get_or nexts (base + y) 0)) (sym f)
-        (record { inner = c.inner; label_is = d.label y k ∙ c.label_is; next_is = d.next y k ∙ c.next-is })
+        (record { inner = c.inner; label_is = d.label y k ∙ c.label_is; next_is = d.next y k ∙ c.next_is })
 
     past_row : (y : ℕ) → length (pushes r) ≤ y → Cells rs more (y - length (pushes r)) → Cells (r ∷ rs) base y
     past_row y k i =

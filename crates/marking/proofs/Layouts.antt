@@ -31,7 +31,7 @@ rows_next (r ∷ rs) base h y lt =
           let f : get_or (ws ++ row_cells more rs) y (plain 0) ≡ get_or ws y (plain 0) = get_or_append_left ws (row_cells more rs) (plain 0) y (omega arith) in
           let c = word_cell base r.to r.to [] (pushes r) y k in
           let s = next_small base r.to y (base + pushed (r ∷ rs)) (omega arith) (omega arith) in
-          let e : (get_or (ws ++ row_cells more rs) y (plain 0)).next ≡ next_of base r.to y = ap (λ (x : Cell). x.next) f ∙ sym c.next-is in
+          let e : (get_or (ws ++ row_cells more rs) y (plain 0)).next ≡ next_of base r.to y = ap (λ (x : Cell). x.next) f ∙ sym c.next_is in
           omega (arith, e, s)
       | inr k ↦
           let f : get_or (ws ++ row_cells more rs) y (plain 0) ≡ get_or (row_cells more rs) (y - length (pushes r)) (plain 0) =
@@ -53,7 +53,7 @@ module _ (m : Lists) (low n : ℕ) (labels nexts firsts : List ℕ) (d : DrewRow
             let c = inner_cell m low n labels nexts firsts d x lo hi in
             let k = rows_next m.rows low fits.to (x - low) (omega arith) in
             let f = cell_past m low x lo in
-            let e = c.next-is ∙ ap (λ (x : Cell). x.next) f in
+            let e = c.next_is ∙ ap (λ (x : Cell). x.next) f in
             omega (arith, e, k);
       }
 

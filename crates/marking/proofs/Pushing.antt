@@ -69,8 +69,8 @@ module _ (m : Lists) (low : ℕ) where
         let up = base_up (j + 1) i (omega arith) in
         let e = base_more j (omega arith) in
         record {
-          label = λ k kt. w.labels-below (base_of m low j + k) (omega (arith, d.reached)) ∙ o.label k kt;
-          next = λ k kt. w.nexts-below (base_of m low j + k) (omega (arith, d.reached)) ∙ o.next k kt;
+          label = λ k kt. w.labels_below (base_of m low j + k) (omega (arith, d.reached)) ∙ o.label k kt;
+          next = λ k kt. w.nexts_below (base_of m low j + k) (omega (arith, d.reached)) ∙ o.next k kt;
         }
 
     words : (j : ℕ) → (j < i) ⊎ (i ≤ j) → j < i + 1 → WordDrawn (pushes (row_at m j)) (base_of m low j) (row_at m j).to labels' nexts' (length (pushes (row_at m j)))

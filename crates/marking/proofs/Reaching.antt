@@ -112,7 +112,7 @@ module _ (cells : List ℕ) (n low : ℕ) (labels nexts : List ℕ) (order : Pre
       h.grows z (first.done z (i, k, rw e (order.reflexive z (rw e at (inside i k)))))
   into g w (along {x} {y} e p) = h.down x y e (into g w p)
   into g w (lower {x} i p) =
-      let (lo, hi) = w.inner-from x i in
+      let (lo, hi) = w.inner_from x i in
       closed x lo hi (rw (w.next x lo hi) (into g w p))
 
   pub is_behind : IsBehind cells n low labels nexts ss b

@@ -1,4 +1,6 @@
 //! Which rows of a machine some run takes, and which some accepting run takes.
+#![tactic(auto)]
+
 mod backward;
 pub mod counts;
 mod drawing;

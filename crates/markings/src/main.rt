@@ -1,6 +1,8 @@
 //! Marks the rows of many tables and grammars. Each line of the input is `table` or `grammar`, a space, and the bytes of
 //! the file in hexadecimal, in lower case and with nothing between the digits. For each line is written what `marktable`
 //! prints of those bytes, or the line `unread` where the line is of another form.
+#![tactic(auto)]
+
 use hexadecimal::decoding::decoded;
 use listing::opened::{grammar_marks_text, table_marks_text};
 use std::alloc::{AllocError, Global};

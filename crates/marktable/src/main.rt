@@ -1,5 +1,7 @@
 //! Marks the rows of the table on standard input, or of the machine of the grammar where the argument says so, and prints
 //! their listing; or says why it is none. It reads no more than decides, however long the input is.
+#![tactic(auto)]
+
 use anyhow::anyhow;
 use listing::opened::{grammar_marks_text, table_marks_text};
 use std::env;

@@ -2,6 +2,8 @@
 //! between the digits. For each line one line is written: `opens` and the numbers of starts, accepting states and
 //! rows and the width, or `refused` and the number, the section and the place of the fault, or `not hexadecimal`.
 //! All the lines are opened into one and the same view. tools/opening_cases.py makes the lines and the answers.
+#![tactic(auto)]
+
 use machine::fault::Fault;
 use machine::machine::Machine;
 use std::alloc::{AllocError, Global};

@@ -1,4 +1,6 @@
 //! The readable text of a machine and of a fault.
+#![tactic(auto)]
+
 pub mod faults;
 pub mod machines;
 pub mod opened;

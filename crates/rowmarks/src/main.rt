@@ -1,5 +1,7 @@
 //! Marks the rows of the table on standard input with a fixed scratch, and prints their listing; or says why not.
 //! It reads no more than decides, however long the input is.
+#![tactic(auto)]
+
 use listing::opened::rowmarks_text;
 use std::io::Read;
 use tables::open::enough_bytes;

@@ -1,5 +1,7 @@
 //! Shows the machine of the table on standard input, or of the grammar where the argument says so; or says why it is none.
 //! It reads no more than decides, however long the input is.
+#![tactic(auto)]
+
 use anyhow::anyhow;
 use reports::opened::{grammar_text, table_text};
 use std::env;

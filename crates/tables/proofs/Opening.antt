@@ -1,15 +1,14 @@
 -- The laws of opening, from those of any file of three sections.
-use Rattle.std.proofs.Common.{◌≡◌, ℕ, true, List, take, Ok, Err, Result, sym, refl, ap, ◌∙◌, arith}
+use Rattle.std.proofs.Common.{◌≡◌, ℕ, List, take, Ok, Err, Result, sym, ap, ◌∙◌, arith}
 use Rattle.machine.specs.declared.fault.Fault.{Fault}
 use Rattle.machine.specs.declared.row.Row.{Row}
-use Rattle.machine.specs.Rows.{is_byte}
-use Rattle.machine.specs.Lists.{Lists, all}
+use Rattle.machine.specs.Lists.{Lists}
 use Rattle.entries.specs.Sections.{and_then}
 use Rattle.entries.specs.Files.{Content, read_file, LawfulFile, FileLaws}
 use Rattle.entries.specs.StateBytes.{states_laws}
 use Rattle.entries.specs.RowBytes.{rows_laws}
 use Rattle.entries.proofs.Files as files
-use Rattle.tables.specs.Tables.{table_layout, content_of, lists_from, open_table, listed, lists_of, LawfulTable, encode_table, TableLaws}
+use Rattle.tables.specs.Tables.{table_layout, content_of, lists_from, open_table, listed, lists_of, LawfulTable, TableLaws}
 
 file_laws : FileLaws table_layout
 file_laws = files.laws table_layout states_laws states_laws rows_laws

@@ -1,5 +1,5 @@
 -- What holds of bytes that opened: the facts that a table owes as a machine. No definition to believe, only proofs.
-use Rattle.std.specs.Prelude.{◌≡◌, ℕ, true, List, Ok, Result, refl}
+use Rattle.std.specs.Prelude.{◌≡◌, ℕ, true, List, Ok, Result}
 use Rattle.std.proofs.Common.{ap}
 use Rattle.machine.specs.declared.fault.Fault.{Fault}
 use Rattle.machine.specs.declared.row.Row.{Row}

@@ -1,4 +1,6 @@
 //! Reads back the text of a machine. A reader takes the text to what stands in front and the rest of it.
+#![tactic(auto)]
+
 pub mod entries;
 mod found;
 mod literals;

@@ -58,8 +58,8 @@ cut (Memᴰ.tail {x = x} k) (step ρ e f t) =
       after = c.after;
       rest = c.rest;
       parts = omega (arith, c.parts);
-      before_in = both_among {xs = x ∷ []} (λ r h. Memᴰ.head (Memᴰ.eq_of_singleton h)) (λ r h. Memᴰ.tail (c.before-in r h));
-      after_in = λ r h. Memᴰ.tail (c.after-in r h);
+      before_in = both_among {xs = x ∷ []} (λ r h. Memᴰ.head (Memᴰ.eq_of_singleton h)) (λ r h. Memᴰ.tail (c.before_in r h));
+      after_in = λ r h. Memᴰ.tail (c.after_in r h);
       first = step ρ e f c.first;
       last = c.last;
     }

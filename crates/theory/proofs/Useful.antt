@@ -133,7 +133,7 @@ module _ (m : Lists) (g : Graph) (l : Lawful m g) where
     follow π lean d a (step {r} ρ e f t) =
         let k = placed (a r (Memᴰ.head refl)) in
         let c = pass NoEdge π lean k.0 r k.1 e ρ (d ∙ f) in
-        follow c.new c.new-lean (ap (λ w. pushes r ++ w) c.same) (λ u h. a u (Memᴰ.tail h)) t
+        follow c.new c.new_lean (ap (λ w. pushes r ++ w) c.same) (λ u h. a u (Memᴰ.tail h)) t
 
     pub complete : {s q : ℕ} {ω : List ℕ} → Reach m s [] q ω → (τ : Trail g E s ω q) × Lean τ true
     complete h = follow here tt refl h.1 h.2
@@ -145,7 +145,7 @@ module _ (m : Lists) (g : Graph) (l : Lawful m g) where
       needed s hs π lean d a hf (step {r} ρ e j t) =
           let k = placed (a r (Memᴰ.head refl)) in
           let c = pass G π lean k.0 r k.1 e ρ (d ∙ j) in
-          c.back back (needed s hs c.new c.new-lean (ap (λ w. pushes r ++ w) c.same) (λ u h. a u (Memᴰ.tail h)) hf t)
+          c.back back (needed s hs c.new c.new_lean (ap (λ w. pushes r ++ w) c.same) (λ u h. a u (Memᴰ.tail h)) hf t)
 
     module _ (sound : Sound m g l E) where
       -- A row is reachable where a trail from a start leads to a lean one that reads what the row pops, and only there.
@@ -153,7 +153,7 @@ module _ (m : Lists) (g : Graph) (l : Lawful m g) where
       reachable r k = (
         λ (s, hs, rs, a, (q, ω, t), j).
             let c = cut j t in
-            let π = complete (c.before, λ u h. a u (c.before-in u h), c.first) in
+            let π = complete (c.before, λ u h. a u (c.before_in u h), c.first) in
             let i = placed k in
             let d = pass NoEdge π.0 π.1 i.0 r i.1 refl c.rest refl in
             (s, hs, d.rest, d.node, d.below, d.over, d.over_lean),
@@ -189,10 +189,10 @@ module _ (m : Lists) (g : Graph) (l : Lawful m g) where
       useful_row G based back good i r at = (
         λ (s, rs, f, e, k).
             let c = cut k e.run in
-            let π = complete (c.before, λ u h. e.taken u (c.before-in u h), c.first) in
+            let π = complete (c.before, λ u h. e.taken u (c.before_in u h), c.first) in
             let d = pass G π.0 π.1 i r at refl c.rest refl in
             let t = ap (λ w. pushes r ++ w) d.same in
-            let h = needed G based back s e.start d.new d.new_lean t (λ u j. e.taken u (c.after-in u j)) e.final c.last in
+            let h = needed G based back s e.start d.new d.new_lean t (λ u j. e.taken u (c.after_in u j)) e.final c.last in
             (d.node, d.over, d.over_lean, d.has h),
         λ (x, o, lean, h).
             let (s, ρ, hs, p, (f, ω, hf, b)) = good x (g.first i) h in

@@ -1,6 +1,8 @@
 //! The theory of reachable and useful rows: a graph whose trails stand for the stacks of a machine.
 //! Edges of this graph that are sound and closed decide which rows, starts and accepting states
 //! are reachable and useful. The functions do nothing; their contracts are the theorems.
+#![tactic(auto)]
+
 ghost use Rattle.theory.specs.Levels.{Leveled};
 ghost use Rattle.theory.specs.Theorems.{Forwards, Backwards, Growing, OneOrder, Standing};
 

@@ -1,4 +1,6 @@
 //! Writing a table into the caller's output: the starts first, then the accepting states, then the rows.
+#![tactic(auto)]
+
 pub(crate) mod several;
 pub mod stage;
 pub mod stages;

@@ -3,13 +3,13 @@ use Rattle.std.proofs.lemmas.List.{places}
 use Rattle.entries.proofs.Outputs.{two_words}
 use Rattle.entries.proofs.row.bytes_of.Goals as goal
 
-pub slice-bounds-bytes-end-2 : goal.slice-bounds-bytes-end-2
-slice-bounds-bytes-end-2 c = search (rules, places)
+pub slice_bounds-bytes-end-2 : goal.slice_bounds-bytes-end-2
+slice_bounds-bytes-end-2 c = search (rules, places)
 
 pub returns : goal.returns
 returns c =
     let r = c.args.row.now in
-    let n : length c.copy-from-slice.new.self ≡ 10 = search rules in
+    let n : length c.copy_from_slice.new.self ≡ 10 = search rules in
     ap (λ bs. r.from ∷ r.letter ∷ r.to ∷ r.popped.len ∷ r.pushed.len ∷ bs)
-    (two_words c.copy-from-slice.new.self c.copy-from-slice-2.new.self (replicate 10 0) n (search rules)
-    ∙ ap₂ {C = List ℕ} (λ x y. x ++ y) c.copy-from-slice.ensures.after c.copy-from-slice-2.ensures.after)
+    (two_words c.copy_from_slice.new.self c.copy_from_slice-2.new.self (replicate 10 0) n (search rules)
+    ∙ ap₂ {C = List ℕ} (λ x y. x ++ y) c.copy_from_slice.ensures.after c.copy_from_slice-2.ensures.after)

@@ -6,15 +6,15 @@ use Rattle.hexadecimal.proofs.decoding.decoded.Goals as goal
 pub returns-then-digits-ne0 : goal.returns-then-digits-ne0
 returns-then-digits-ne0 c = sym (odd_none c.args.digits.now c.if-digits-ne0.true)
 
-pub returns-in-default : goal.returns-in-default
-returns-in-default c =
+pub returns-in_default : goal.returns-in_default
+returns-in_default c =
     byte_bad c.args.digits.now c.loop-place.place (vec_items c.loop-place.bytes) c.loop-place.invariant (omega arith)
-    c.in-default.ensures
+    c.in_default.ensures
 
 pub loop-place-preserved : goal.loop-place-preserved
 loop-place-preserved c =
     byte_more c.args.digits.now c.loop-place.place (vec_items c.loop-place.bytes) c.loop-place.invariant c.in-Some.next
-    c.in-ok-push.ensures.items (omega arith) c.in-Some.ensures
+    c.in_ok-push.ensures.items (omega arith) c.in-Some.ensures
 
 pub returns : goal.returns
 returns c =

@@ -15,6 +15,6 @@ returns-then-n-lt10 t c = record {
 
 pub returns-else-n-lt10 : goal.returns-else-n-lt10
 returns-else-n-lt10 t c =
-    let e : c.digit-count.result + 1 ≡ length (decimal c.args.n) =
-    ap (λ d. d + 1) c.digit-count.ensures.count ∙ sym (length-step c.args.n c.if-n-lt10.false (omega arith)) in
+    let e : c.digit_count.result + 1 ≡ length (decimal c.args.n) =
+    ap (λ d. d + 1) c.digit_count.ensures.count ∙ sym (length-step c.args.n c.if-n-lt10.false (omega arith)) in
     record { count = e; few = few_digits c.args.n _ (omega arith) e }

@@ -9,6 +9,6 @@ returns c =
     omega (
       arith,
       length-append (lines_text 0 c.args.marks.now) (summary_text c.args.counts (length c.args.marks.now)),
-      c.lines-len.ensures.len,
-      c.summary-len.ensures.len,
+      c.lines_len.ensures.len,
+      c.summary_len.ensures.len,
     )

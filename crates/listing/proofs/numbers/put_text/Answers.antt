@@ -3,4 +3,4 @@ use Rattle.listing.proofs.Placing.{puts_fitting}
 use Rattle.listing.proofs.numbers.put_text.Goals as goal
 
 pub returns : goal.returns
-returns c = puts_fitting c.put-bytes.ensures c.requires
+returns c = puts_fitting c.put_bytes.ensures c.requires

@@ -6,6 +6,6 @@ use Rattle.listing.proofs.texts.listed.Goals as goal
 
 pub returns : goal.returns
 returns c =
-    let long = c.in-ok-out.ensures.len in
-    with_items_is c.in-ok-out.out c.put-listing.new.out (omega arith)
-    ∙ filled c.put-listing.ensures (omega (arith, c.listing-len.ensures, c.as-mut-slice.ensures.len))
+    let long = c.in_ok-out.ensures.len in
+    with_items_is c.in_ok-out.out c.put_listing.new.out (omega arith)
+    ∙ filled c.put_listing.ensures (omega (arith, c.listing_len.ensures, c.as_mut_slice.ensures.len))

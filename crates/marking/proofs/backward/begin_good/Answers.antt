@@ -10,7 +10,7 @@ line-requires c = omega (arith, line_end c.args.n c.args.n c.loop-y.y (omega ari
 pub loop-y-preserved : goal.loop-y-preserved
 loop-y-preserved c =
     elim c.if-behind-y-ne0.branch [
-      | then-behind-y-ne0 w ↦ simp w.good-is (between_more _ _ _ _ _ _ _ c.loop-y.invariant w.take-in-both.new.cells _ (w.line.ensures.1 c.args.n (omega arith) (omega arith)) w.take-in-both.ensures (omega arith))
+      | then-behind-y-ne0 w ↦ simp w.good-is (between_more _ _ _ _ _ _ _ c.loop-y.invariant w.take_in_both.new.cells _ (w.line.ensures.1 c.args.n (omega arith) (omega arith)) w.take_in_both.ensures (omega arith))
       | else-behind-y-ne0 w ↦ simp w.good-is (between_skip _ _ _ _ _ _ _ c.loop-y.invariant (λ k. omega arith))
     ]
 

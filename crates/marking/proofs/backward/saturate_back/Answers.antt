@@ -6,7 +6,7 @@ pub loop-pending-init : goal.loop-pending-init
 loop-pending-init g c = backed_none _ _ _ _ _ _ _ _ _ _ c.fill.ensures (omega arith) c.requires.rows.0.first c.clear.ensures
 
 pub loop-pending-preserved : goal.loop-pending-preserved
-loop-pending-preserved g c = backed_more _ _ _ _ _ _ _ _ _ _ _ _ _ _ _ _ c.loop-pending.invariant c.back-round.ensures c.copy-from-slice.ensures.after c.clear-in-loop-pending.ensures
+loop-pending-preserved g c = backed_more _ _ _ _ _ _ _ _ _ _ _ _ _ _ _ _ c.loop-pending.invariant c.back_round.ensures c.copy_from_slice.ensures.after c.clear-in-loop-pending.ensures
 
 pub returns : goal.returns
 returns g c = back_saturated _ _ _ _ _ _ _ _ _ _ _ _ _ c.loop-pending.invariant c.loop-pending-test.ensures

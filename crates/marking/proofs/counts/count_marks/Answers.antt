@@ -4,16 +4,16 @@ use Rattle.marking.specs.Marks.{count_if, counts_of}
 use Rattle.marking.proofs.Counting.{count_more, count_if-take, bool_byte, counts_same}
 use Rattle.marking.proofs.counts.count_marks.Goals as goal
 
-pub overflow-add-counts : goal.overflow-add-counts
-overflow-add-counts c =
+pub overflow_add-counts : goal.overflow_add-counts
+overflow_add-counts c =
     let t = count_if-take (λ k. ltb 0 k) c.args.marks.now c.loop-mark.mark-index in
     let m = count_more (λ k. ltb 0 k) c.args.marks.now c.loop-mark.mark-index (omega arith) in
     let b = bool_byte (ltb 0 (get_or c.args.marks.now c.loop-mark.mark-index 0)) in
     let u = count_if-take (λ k. ltb 0 k) c.args.marks.now (c.loop-mark.mark-index + 1) in
     record { fits = omega (arith, c.from.ensures, c.loop-mark.invariant.0) }
 
-pub overflow-add-counts-in-loop-mark : goal.overflow-add-counts-in-loop-mark
-overflow-add-counts-in-loop-mark c =
+pub overflow_add-counts-in-loop-mark : goal.overflow_add-counts-in-loop-mark
+overflow_add-counts-in-loop-mark c =
     let m = count_more (λ k. eqb k 2) c.args.marks.now c.loop-mark.mark-index (omega arith) in
     let b = bool_byte (eqb (get_or c.args.marks.now c.loop-mark.mark-index 0) 2) in
     let u = count_if-take (λ k. eqb k 2) c.args.marks.now (c.loop-mark.mark-index + 1) in

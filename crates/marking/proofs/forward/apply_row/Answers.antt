@@ -7,8 +7,8 @@ use Rattle.marking.proofs.Cells.{line_end}
 use Rattle.marking.proofs.Words.{both}
 use Rattle.marking.proofs.forward.apply_row.Goals as goal
 
-pub fill-levels-requires : goal.fill-levels-requires
-fill-levels-requires c =
+pub fill_levels-requires : goal.fill_levels-requires
+fill_levels-requires c =
     let w = (both c.args.row c.requires.row.1.1).0 in
     record { shape = c.requires.shape; row = (omega (arith, c.from.ensures), w.few) }
 
@@ -27,8 +27,8 @@ absorb-requires c =
       shape = (omega arith, (omega arith, c.line-last.ensures.0));
       order = (
         c.requires.order,
-        last_down c.args.cells.now _ _ _ _ (pops c.args.row) c.from.result c.fill-levels.new.levels _ c.from-2.result lev n
-            (λ g d. subst (λ k. Filled g (Holds c.args.cells.now c.args.nodes.size) (pops c.args.row) c.from.result c.args.nodes.size c.fill-levels.new.levels k) (sym c.from-2.ensures) (c.fill-levels.ensures g d)) c.requires.order,
+        last_down c.args.cells.now _ _ _ _ (pops c.args.row) c.from.result c.fill_levels.new.levels _ c.from-2.result lev n
+            (λ g d. subst (λ k. Filled g (Holds c.args.cells.now c.args.nodes.size) (pops c.args.row) c.from.result c.args.nodes.size c.fill_levels.new.levels k) (sym c.from-2.ensures) (c.fill_levels.ensures g d)) c.requires.order,
       );
     }
 
@@ -40,8 +40,8 @@ returns c =
     let d = c.absorb.ensures in
     record {
       adds = λ g v.
-          let f = subst (λ k. Filled g (Holds c.args.cells.now c.args.nodes.size) (pops c.args.row) c.from.result c.args.nodes.size c.fill-levels.new.levels k) (sym c.from-2.ensures) (c.fill-levels.ensures g v) in
-          let t = last_adds c.args.cells.now c.args.nodes.size c.args.nodes.low c.args.nodes.labels.now c.args.nodes.nexts.now (pops c.args.row) c.from.result c.fill-levels.new.levels c.line-last.result.now c.from-2.result lev n c.absorb.new.cells c.args.first d.adds g f in
+          let f = subst (λ k. Filled g (Holds c.args.cells.now c.args.nodes.size) (pops c.args.row) c.from.result c.args.nodes.size c.fill_levels.new.levels k) (sym c.from-2.ensures) (c.fill_levels.ensures g v) in
+          let t = last_adds c.args.cells.now c.args.nodes.size c.args.nodes.low c.args.nodes.labels.now c.args.nodes.nexts.now (pops c.args.row) c.from.result c.fill_levels.new.levels c.line-last.result.now c.from-2.result lev n c.absorb.new.cells c.args.first d.adds g f in
           subst (λ q. Adds c.args.cells.now c.absorb.new.cells c.args.nodes.size c.args.nodes.size (Follows g c.args.cells.now c.args.nodes.size c.args.first (pops c.args.row) q)) c.from.ensures t;
       order = d.order;
       same = d.same;

@@ -9,8 +9,8 @@ use Rattle.marking.proofs.Cells.{line_end}
 use Rattle.marking.proofs.Words.{both}
 use Rattle.marking.proofs.Judged.{found}
 
-pub fill-levels-requires : goal.fill-levels-requires
-fill-levels-requires c =
+pub fill_levels-requires : goal.fill_levels-requires
+fill_levels-requires c =
     let w = (both c.args.row c.requires.row.1.1).0 in
     record { shape = (c.requires.shape.0, (omega arith, omega arith)); row = (omega (arith, c.from.ensures), w.few) }
 
@@ -31,8 +31,8 @@ returns c = λ g d.
     let q = c.from-2.ensures in
     let few = w.few in
     let long : length (pops r) ≡ c.from-2.result = w.long ∙ sym q in
-    let f = subst (λ k. Filled g (Holds c.args.cells.now n) (pops r) c.from.result n c.fill-levels.new.levels k) (sym q) (c.fill-levels.ensures g d) in
+    let f = subst (λ k. Filled g (Holds c.args.cells.now n) (pops r) c.from.result n c.fill_levels.new.levels k) (sym q) (c.fill_levels.ensures g d) in
     let l = c.line-last.ensures.1 11 (omega arith) (omega arith) in
     let s = c.line.ensures.1 n (omega arith) (omega arith) in
-    found g n c.args.cells.now r c.from.result c.from.ensures c.fill-levels.new.levels c.from-2.result long f c.line-last.result.now l
+    found g n c.args.cells.now r c.from.result c.from.ensures c.fill_levels.new.levels c.from-2.result long f c.line-last.result.now l
     c.args.good.now c.line.result.now c.args.first s c.args.ahead.now (omega arith) c.share-useful.result c.share.result c.mark.result c.share-useful.ensures c.share.ensures c.mark.ensures

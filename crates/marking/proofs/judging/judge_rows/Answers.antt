@@ -7,10 +7,10 @@ use Rattle.marking.proofs.Rounding.{all_at}
 use Rattle.marking.proofs.Judged.{rest_more, found_more}
 use Rattle.marking.proofs.judging.judge_rows.Goals as goal
 
-pub judge-row-requires : goal.judge-row-requires
-judge-row-requires g c =
+pub judge_row-requires : goal.judge_row-requires
+judge_row-requires g c =
     let m = g.M.Machine.lists c.args.m.now in
-    let h : c.loop-i.i < length m.rows = omega (arith, c.row-count-i-end.ensures) in
+    let h : c.loop-i.i < length m.rows = omega (arith, c.row_count-i-end.ensures) in
     record {
       shape = (c.requires.shape.0, (omega arith, (omega arith, (omega arith, omega arith))));
       row = (
@@ -25,9 +25,9 @@ judge-row-requires g c =
 pub loop-i-preserved : goal.loop-i-preserved
 loop-i-preserved g c =
     let m = g.M.Machine.lists c.args.m.now in
-    let h : c.loop-i.i < length m.rows = omega (arith, c.row-count-i-end.ensures) in (
-      λ w d. found_more m w c.args.nodes.size c.args.firsts.now c.args.cells.now c.args.good.now c.args.ahead.now c.loop-i.marks c.loop-i.i c.judge-row.result (omega arith) (c.loop-i.invariant.0 w d)
-          (subst (λ r. Found w c.args.nodes.size c.args.cells.now c.args.good.now c.args.ahead.now r (get_or c.args.firsts.now c.loop-i.i 0) c.judge-row.result) c.row.ensures
-          (subst (λ f. Found w c.args.nodes.size c.args.cells.now c.args.good.now c.args.ahead.now c.row.result f c.judge-row.result) c.from.ensures (c.judge-row.ensures w d))),
-      rest_more c.args.marks.now c.loop-i.marks c.loop-i.i c.judge-row.result c.loop-i.invariant.1,
+    let h : c.loop-i.i < length m.rows = omega (arith, c.row_count-i-end.ensures) in (
+      λ w d. found_more m w c.args.nodes.size c.args.firsts.now c.args.cells.now c.args.good.now c.args.ahead.now c.loop-i.marks c.loop-i.i c.judge_row.result (omega arith) (c.loop-i.invariant.0 w d)
+          (subst (λ r. Found w c.args.nodes.size c.args.cells.now c.args.good.now c.args.ahead.now r (get_or c.args.firsts.now c.loop-i.i 0) c.judge_row.result) c.row.ensures
+          (subst (λ f. Found w c.args.nodes.size c.args.cells.now c.args.good.now c.args.ahead.now c.row.result f c.judge_row.result) c.from.ensures (c.judge_row.ensures w d))),
+      rest_more c.args.marks.now c.loop-i.marks c.loop-i.i c.judge_row.result c.loop-i.invariant.1,
     )

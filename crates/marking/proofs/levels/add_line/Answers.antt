@@ -3,20 +3,20 @@ use Rattle.marking.specs.Relations.{Holds}
 use Rattle.marking.proofs.Cells.{place_in, line_more, adds_as}
 use Rattle.marking.proofs.levels.add_line.Goals as goal
 
-pub offset-bounds-levels-line : goal.offset-bounds-levels-line
-offset-bounds-levels-line c = search (rules, place_in)
+pub offset_bounds-levels-line : goal.offset_bounds-levels-line
+offset_bounds-levels-line c = search (rules, place_in)
 
 pub bounds-levels-line : goal.bounds-levels-line
 bounds-levels-line c = search (rules, place_in)
 
-pub offset-bounds-cells-from : goal.offset-bounds-cells-from
-offset-bounds-cells-from c = search (rules, place_in)
+pub offset_bounds-cells-from : goal.offset_bounds-cells-from
+offset_bounds-cells-from c = search (rules, place_in)
 
 pub bounds-cells-from : goal.bounds-cells-from
 bounds-cells-from c = search (rules, place_in)
 
-pub offset-bounds-levels-line-in-loop-z : goal.offset-bounds-levels-line-in-loop-z
-offset-bounds-levels-line-in-loop-z c = search (rules, place_in)
+pub offset_bounds-levels-line-in-loop-z : goal.offset_bounds-levels-line-in-loop-z
+offset_bounds-levels-line-in-loop-z c = search (rules, place_in)
 
 pub bounds-levels-line-in-loop-z : goal.bounds-levels-line-in-loop-z
 bounds-levels-line-in-loop-z c = search (rules, place_in)

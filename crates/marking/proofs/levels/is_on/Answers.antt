@@ -3,8 +3,8 @@ use Rattle.std.proofs.lemmas.Bool.Decides.{nat_tests}
 use Rattle.marking.proofs.Cells.{place_in}
 use Rattle.marking.proofs.levels.is_on.Goals as goal
 
-pub offset-bounds-levels-j : goal.offset-bounds-levels-j
-offset-bounds-levels-j c = search (rules, place_in)
+pub offset_bounds-levels-j : goal.offset_bounds-levels-j
+offset_bounds-levels-j c = search (rules, place_in)
 
 pub bounds-levels-j : goal.bounds-levels-j
 bounds-levels-j c = search (rules, place_in)

@@ -2,8 +2,8 @@ use Rattle.std.proofs.Common.{refl, inr, arith, rules}
 use Rattle.marking.proofs.Cells.{place_in, adds_set}
 use Rattle.marking.proofs.levels.put_on.Goals as goal
 
-pub offset-bounds-levels-j : goal.offset-bounds-levels-j
-offset-bounds-levels-j c = search (rules, place_in)
+pub offset_bounds-levels-j : goal.offset_bounds-levels-j
+offset_bounds-levels-j c = search (rules, place_in)
 
 pub bounds-levels-j : goal.bounds-levels-j
 bounds-levels-j c = search (rules, place_in)

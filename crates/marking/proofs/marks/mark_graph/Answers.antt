@@ -10,10 +10,10 @@ returns g c =
     let m = g.M.Machine.lists c.args.m.now in
     let w = graph_of c.args.nodes.low m.rows in
     let s = c.solve.ensures w c.requires.drawn in
-    let e : c.row-count.result - 0 ≡ length m.rows = omega (arith, c.row-count.ensures) in
+    let e : c.row_count.result - 0 ≡ length m.rows = omega (arith, c.row_count.ensures) in
     record {
-      sets = marked m w c.args.nodes.size c.args.firsts.now c.solve.new.cells c.solve.new.good c.solve.new.ahead c.solve.new.behind s c.args.marks.now c.judge-rows.new.marks (omega arith) (omega arith) c.judge-rows.ensures.rest (c.judge-rows.ensures.found w c.requires.drawn.drawn);
-      counts = c.count-marks.ensures ∙ ap (λ k. counts_of (take k c.judge-rows.new.marks)) e;
-      starts = flags_as _ c.flag-starts.ensures s.start;
-      accepts = flags_as _ c.flag-accepts.ensures s.accept;
+      sets = marked m w c.args.nodes.size c.args.firsts.now c.solve.new.cells c.solve.new.good c.solve.new.ahead c.solve.new.behind s c.args.marks.now c.judge_rows.new.marks (omega arith) (omega arith) c.judge_rows.ensures.rest (c.judge_rows.ensures.found w c.requires.drawn.drawn);
+      counts = c.count_marks.ensures ∙ ap (λ k. counts_of (take k c.judge_rows.new.marks)) e;
+      starts = flags_as _ c.flag_starts.ensures s.start;
+      accepts = flags_as _ c.flag_accepts.ensures s.accept;
     }

@@ -2,8 +2,8 @@ use Rattle.std.proofs.Common.{refl, inr, arith, rules}
 use Rattle.marking.proofs.Cells.{place_in, adds_set}
 use Rattle.marking.proofs.matrix.add.Goals as goal
 
-pub offset-bounds-cells-y : goal.offset-bounds-cells-y
-offset-bounds-cells-y c = search (rules, place_in)
+pub offset_bounds-cells-y : goal.offset_bounds-cells-y
+offset_bounds-cells-y c = search (rules, place_in)
 
 pub bounds-cells-y : goal.bounds-cells-y
 bounds-cells-y c = search (rules, place_in)

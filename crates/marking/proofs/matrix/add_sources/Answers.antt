@@ -2,8 +2,8 @@ use Rattle.std.proofs.Common.{arith, rules}
 use Rattle.marking.proofs.Cells.{place_in, sources_more, gains_as}
 use Rattle.marking.proofs.matrix.add_sources.Goals as goal
 
-pub offset-bounds-cells-line : goal.offset-bounds-cells-line
-offset-bounds-cells-line c = search (rules, place_in)
+pub offset_bounds-cells-line : goal.offset_bounds-cells-line
+offset_bounds-cells-line c = search (rules, place_in)
 
 pub bounds-cells-line : goal.bounds-cells-line
 bounds-cells-line c = search (rules, place_in)

@@ -3,8 +3,8 @@ use Rattle.std.proofs.lemmas.Bool.Decides.{nat_tests}
 use Rattle.marking.proofs.Cells.{place_in}
 use Rattle.marking.proofs.matrix.has.Goals as goal
 
-pub offset-bounds-cells-y : goal.offset-bounds-cells-y
-offset-bounds-cells-y c = search (rules, place_in)
+pub offset_bounds-cells-y : goal.offset_bounds-cells-y
+offset_bounds-cells-y c = search (rules, place_in)
 
 pub bounds-cells-y : goal.bounds-cells-y
 bounds-cells-y c = search (rules, place_in)

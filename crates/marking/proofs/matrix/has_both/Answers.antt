@@ -2,8 +2,8 @@ use Rattle.std.proofs.Common.{⊎_elim, arith, rules}
 use Rattle.marking.proofs.Cells.{place_in, member_in, when_zero, holds_or}
 use Rattle.marking.proofs.matrix.has_both.Goals as goal
 
-pub offset-bounds-cells-line : goal.offset-bounds-cells-line
-offset-bounds-cells-line c = search (rules, place_in)
+pub offset_bounds-cells-line : goal.offset_bounds-cells-line
+offset_bounds-cells-line c = search (rules, place_in)
 
 pub bounds-cells-line : goal.bounds-cells-line
 bounds-cells-line c = search (rules, place_in)

@@ -8,7 +8,7 @@ use Rattle.marking.proofs.matrix.spread.Goals.{then-has, else-has}
 pub loop-y-preserved : goal.loop-y-preserved
 loop-y-preserved c =
     elim c.if-has.branch [
-      | then-has w ↦ simp w.cells-is (spread_more _ _ _ _ _ _ _ c.loop-y.invariant w.take-in.ensures (w.if-has.ensures.0 refl))
+      | then-has w ↦ simp w.cells-is (spread_more _ _ _ _ _ _ _ c.loop-y.invariant w.take_in.ensures (w.if-has.ensures.0 refl))
       | else-has w ↦ simp w.cells-is (spread_skip _ _ _ _ _ _ c.loop-y.invariant (λ h. false≢true (w.if-has.ensures.1 h)))
     ]
 

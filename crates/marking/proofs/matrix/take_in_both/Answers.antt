@@ -3,14 +3,14 @@ use Rattle.marking.specs.Relations.{Member}
 use Rattle.marking.proofs.Cells.{place_in, line_more, adds_as}
 use Rattle.marking.proofs.matrix.take_in_both.Goals as goal
 
-pub offset-bounds-cells-line : goal.offset-bounds-cells-line
-offset-bounds-cells-line c = search (rules, place_in)
+pub offset_bounds-cells-line : goal.offset_bounds-cells-line
+offset_bounds-cells-line c = search (rules, place_in)
 
 pub bounds-cells-line : goal.bounds-cells-line
 bounds-cells-line c = search (rules, place_in)
 
-pub offset-bounds-cells-line-in-loop-x : goal.offset-bounds-cells-line-in-loop-x
-offset-bounds-cells-line-in-loop-x c = search (rules, place_in)
+pub offset_bounds-cells-line-in-loop-x : goal.offset_bounds-cells-line-in-loop-x
+offset_bounds-cells-line-in-loop-x c = search (rules, place_in)
 
 pub bounds-cells-line-in-loop-x : goal.bounds-cells-line-in-loop-x
 bounds-cells-line-in-loop-x c = search (rules, place_in)

@@ -9,8 +9,8 @@ use Rattle.marking.proofs.Pushing.{pushed_take, pushed_more}
 use Rattle.marking.proofs.Sizes.{pushed_small}
 use Rattle.marking.proofs.need.pushed_count.Goals as goal
 
-pub overflow-add-sum : goal.overflow-add-sum
-overflow-add-sum g c =
+pub overflow_add-sum : goal.overflow_add-sum
+overflow_add-sum g c =
     let m = g.M.Machine.lists c.args.m.now in
     let few = (g.M.Machine.few c.args.m.now).rows in
     let small = pushed_small m.rows (g.M.Machine.limits c.args.m.now).rows in
@@ -20,7 +20,7 @@ overflow-add-sum g c =
 pub loop-i-preserved : goal.loop-i-preserved
 loop-i-preserved g c =
     let m = g.M.Machine.lists c.args.m.now in
-    let h : c.loop-i.i < length m.rows = omega (arith, c.row-count-i-end.ensures) in
+    let h : c.loop-i.i < length m.rows = omega (arith, c.row_count-i-end.ensures) in
     let l : lawful_row c.row.result ≡ true = ap lawful_row c.row.ensures ∙ all_at lawful_row m.rows zero_row c.loop-i.i (g.M.Machine.limits c.args.m.now).rows h in
     let w = (both c.row.result l).1 in
     let n : c.from-sum.result ≡ length (pushes (get_or m.rows c.loop-i.i zero_row)) = c.from-sum.ensures ∙ sym w.long ∙ ap (λ (r : Row). length (pushes r)) c.row.ensures in
@@ -31,6 +31,6 @@ returns g c =
     let m = g.M.Machine.lists c.args.m.now in
     let few = (g.M.Machine.few c.args.m.now).rows in
     let small = pushed_small m.rows (g.M.Machine.limits c.args.m.now).rows in
-    let e = ap pushed (take_all c.loop-i.i m.rows (omega (arith, c.row-count-i-end.ensures))) in
+    let e = ap pushed (take_all c.loop-i.i m.rows (omega (arith, c.row_count-i-end.ensures))) in
     let s : c.loop-i.sum ≡ pushed m.rows = c.loop-i.invariant ∙ e in
     (s, omega arith)

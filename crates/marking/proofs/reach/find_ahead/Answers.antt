@@ -3,7 +3,7 @@ use Rattle.marking.proofs.Sinking.{starts_up, sunk_none, sunk_more, is_ahead}
 use Rattle.marking.proofs.reach.find_ahead.Goals as goal
 
 pub loop-init : goal.loop-init
-loop-init g c = sunk_none _ _ _ _ _ _ (starts_up _ _ _ _ _ _ c.requires.order c.clear.ensures c.add-starts.ensures)
+loop-init g c = sunk_none _ _ _ _ _ _ (starts_up _ _ _ _ _ _ c.requires.order c.clear.ensures c.add_starts.ensures)
 
 pub loop-preserved : goal.loop-preserved
 loop-preserved g c = sunk_more _ _ _ _ _ _ _ _ _ _ c.loop.invariant c.sink.ensures
@@ -12,4 +12,4 @@ pub returns : goal.returns
 returns g c =
     let d = c.sink.ensures in
     let e = c.loop-test.false in
-    is_ahead _ _ _ _ _ c.requires.order _ c.clear.new.words c.add-starts.new.set c.sink.new.set c.requires.starts c.clear.ensures c.add-starts.ensures (sunk_more _ _ _ _ _ _ _ _ _ _ c.loop.invariant d) (d.closed e)
+    is_ahead _ _ _ _ _ c.requires.order _ c.clear.new.words c.add_starts.new.set c.sink.new.set c.requires.starts c.clear.ensures c.add_starts.ensures (sunk_more _ _ _ _ _ _ _ _ _ _ c.loop.invariant d) (d.closed e)

@@ -3,7 +3,7 @@ use Rattle.marking.proofs.Reaching.{accepts_down, risen_none, risen_more, is_beh
 use Rattle.marking.proofs.reach.find_behind.Goals as goal
 
 pub loop-init : goal.loop-init
-loop-init g c = risen_none _ _ _ _ _ _ (accepts_down _ _ _ _ _ _ c.requires.order c.clear.ensures c.add-accepts.ensures)
+loop-init g c = risen_none _ _ _ _ _ _ (accepts_down _ _ _ _ _ _ c.requires.order c.clear.ensures c.add_accepts.ensures)
 
 pub loop-preserved : goal.loop-preserved
 loop-preserved g c = risen_more _ _ _ _ _ _ _ _ _ _ c.loop.invariant c.rise.ensures
@@ -12,4 +12,4 @@ pub returns : goal.returns
 returns g c =
     let d = c.rise.ensures in
     let e = c.loop-test.false in
-    is_behind _ _ _ _ _ c.requires.order _ c.clear.new.words c.add-accepts.new.set c.rise.new.set c.requires.accepts c.clear.ensures c.add-accepts.ensures (risen_more _ _ _ _ _ _ _ _ _ _ c.loop.invariant d) (d.closed e)
+    is_behind _ _ _ _ _ c.requires.order _ c.clear.new.words c.add_accepts.new.set c.rise.new.set c.requires.accepts c.clear.ensures c.add_accepts.ensures (risen_more _ _ _ _ _ _ _ _ _ _ c.loop.invariant d) (d.closed e)

@@ -12,7 +12,7 @@ loop-x-init c = rises_none _ _ _ _ _ c.requires.order.0 _ _ (omega arith) c.requ
 pub loop-x-preserved : goal.loop-x-preserved
 loop-x-preserved c =
     elim c.if-set-next-ne0.branch [
-      | then-set-next-ne0+then-set-x-eq0 w ↦ simp (w.set-is, w.changed-is) (rises_more _ _ _ _ _ c.requires.order.0 _ _ _ _ c.loop-x.invariant w.add-sources.new.set w.add-sources.ensures (omega arith) (omega arith) (omega arith) (omega arith) (omega arith) (omega arith))
+      | then-set-next-ne0+then-set-x-eq0 w ↦ simp (w.set-is, w.changed-is) (rises_more _ _ _ _ _ c.requires.order.0 _ _ _ _ c.loop-x.invariant w.add_sources.new.set w.add_sources.ensures (omega arith) (omega arith) (omega arith) (omega arith) (omega arith) (omega arith))
       | else-set-next-ne0 w ↦ simp (w.set-is, w.changed-is) (rises_skip _ _ _ _ _ c.requires.order.0 _ _ _ _ c.loop-x.invariant (λ m. elim w.else-set-next-ne0.branch [
         | else-set-next-ne0-via-then-set-next-ne0+else-set-x-eq0 v ↦ omega arith
         | else-set-next-ne0-via-else-set-next-ne0 v ↦ omega arith

@@ -4,8 +4,8 @@ use Rattle.marking.proofs.Deciding.{solved}
 use Rattle.marking.proofs.solving.solve.Goals as goal
 
 pub saturate-requires : goal.saturate-requires
-saturate-requires g c = record { shape = (c.requires.shape.0, (omega arith, omega arith)); rows = c.requires.rows; order = identity_preorder _ _ c.make-identity.ensures }
+saturate-requires g c = record { shape = (c.requires.shape.0, (omega arith, omega arith)); rows = c.requires.rows; order = identity_preorder _ _ c.make_identity.ensures }
 
 pub returns : goal.returns
 returns g c = λ w d.
-    solved _ _ _ _ _ _ _ _ _ _ _ _ w d c.make-identity.ensures c.saturate.ensures c.find-ahead.ensures c.find-behind.ensures c.begin-good.ensures c.saturate-back.ensures c.requires.rows.from
+    solved _ _ _ _ _ _ _ _ _ _ _ _ w d c.make_identity.ensures c.saturate.ensures c.find_ahead.ensures c.find_behind.ensures c.begin_good.ensures c.saturate_back.ensures c.requires.rows.from

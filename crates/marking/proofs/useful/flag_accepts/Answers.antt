@@ -10,9 +10,9 @@ pub loop-i-preserved : goal.loop-i-preserved
 loop-i-preserved g c =
     let e : c.from-state.result ≡ get_or (g.M.Machine.lists c.args.m.now).accepts c.loop-i.i 0 = c.from-state.ensures ∙ c.accept.ensures in
     elim c.if-set-state-ne0.branch [
-      | then-set-state-ne0 w ↦ simp w.flags-is (flags_more _ _ _ _ c.loop-i.invariant c.from-state.result e (omega (arith, c.from-state.ensures, c.accept.type-inv)) (omega arith))
+      | then-set-state-ne0 w ↦ simp w.flags-is (flags_more _ _ _ _ c.loop-i.invariant c.from-state.result e (omega (arith, c.from-state.ensures, c.accept.type_inv)) (omega arith))
       | else-set-state-ne0 w ↦ simp w.flags-is (flags_skip _ _ _ _ c.loop-i.invariant c.from-state.result e (λ m. omega arith))
     ]
 
 pub returns : goal.returns
-returns g c = flags_all _ _ _ c.loop-i.i (omega (arith, c.accept-count-i-end.ensures)) c.loop-i.invariant
+returns g c = flags_all _ _ _ c.loop-i.i (omega (arith, c.accept_count-i-end.ensures)) c.loop-i.invariant

@@ -3,26 +3,26 @@ use Rattle.marking.specs.Relations.{On, Holds}
 use Rattle.marking.proofs.Cells.{place_in, line_more, adds_as}
 use Rattle.marking.proofs.ways.begin_ways.Goals as goal
 
-pub offset-bounds-levels-line : goal.offset-bounds-levels-line
-offset-bounds-levels-line c = search (rules, place_in)
+pub offset_bounds-levels-line : goal.offset_bounds-levels-line
+offset_bounds-levels-line c = search (rules, place_in)
 
 pub bounds-levels-line : goal.bounds-levels-line
 bounds-levels-line c = search (rules, place_in)
 
-pub offset-bounds-good-sources : goal.offset-bounds-good-sources
-offset-bounds-good-sources c = search (rules, place_in)
+pub offset_bounds-good-sources : goal.offset_bounds-good-sources
+offset_bounds-good-sources c = search (rules, place_in)
 
 pub bounds-good-sources : goal.bounds-good-sources
 bounds-good-sources c = search (rules, place_in)
 
-pub offset-bounds-ways-line : goal.offset-bounds-ways-line
-offset-bounds-ways-line c = search (rules, place_in)
+pub offset_bounds-ways-line : goal.offset_bounds-ways-line
+offset_bounds-ways-line c = search (rules, place_in)
 
 pub bounds-ways-line : goal.bounds-ways-line
 bounds-ways-line c = search (rules, place_in)
 
-pub offset-bounds-ways-line-in-loop-z : goal.offset-bounds-ways-line-in-loop-z
-offset-bounds-ways-line-in-loop-z c = search (rules, place_in)
+pub offset_bounds-ways-line-in-loop-z : goal.offset_bounds-ways-line-in-loop-z
+offset_bounds-ways-line-in-loop-z c = search (rules, place_in)
 
 pub bounds-ways-line-in-loop-z : goal.bounds-ways-line-in-loop-z
 bounds-ways-line-in-loop-z c = search (rules, place_in)

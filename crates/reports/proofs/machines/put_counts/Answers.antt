@@ -5,5 +5,5 @@ use Rattle.reports.proofs.machines.put_counts.Goals as goal
 pub returns : goal.returns
 returns g c =
     simp append_assoc
-    (rw (c.start-count-starts.ensures, c.accept-count-accepting.ensures, c.row-count-rows.ensures, c.width-width.ensures)
+    (rw (c.start_count-starts.ensures, c.accept_count-accepting.ensures, c.row_count-rows.ensures, c.width-width.ensures)
     at c.writeln.ensures.bytes)

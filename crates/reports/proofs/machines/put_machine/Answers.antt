@@ -6,12 +6,12 @@ use Rattle.reports.proofs.machines.put_machine.Goals as goal
 
 pub returns : goal.returns
 returns g c =
-    let counts = c.in-ok-put-counts.ensures in
-    let start = c.in-ok-write.ensures.bytes in
-    let starts = c.in-ok-put-starts.ensures in
-    let accept = c.in-ok-write-2.ensures.bytes in
-    let accepts = c.in-ok-put-accepts.ensures in
-    let ended = c.in-ok-writeln.ensures.bytes in
+    let counts = c.in_ok-put_counts.ensures in
+    let start = c.in_ok-write.ensures.bytes in
+    let starts = c.in_ok-put_starts.ensures in
+    let accept = c.in_ok-write-2.ensures.bytes in
+    let accepts = c.in_ok-put_accepts.ensures in
+    let ended = c.in_ok-writeln.ensures.bytes in
     let joined = machine_joined (string_bytes c.args.text.now) (g.M.Machine.lists c.args.m.now) in
-    IfOk-weaker c.put-rows.result _ _ (λ _ e. e ∙ joined)
-    (rw (ended, accepts, accept, starts, start, counts) at c.put-rows.ensures)
+    IfOk-weaker c.put_rows.result _ _ (λ _ e. e ∙ joined)
+    (rw (ended, accepts, accept, starts, start, counts) at c.put_rows.ensures)

@@ -6,9 +6,9 @@ use Rattle.reports.proofs.rows.put_row.Goals as goal
 
 pub returns : goal.returns
 returns c =
-    let head = c.in-ok-write.ensures.bytes in
-    let popped = c.in-ok-put-word.ensures in
-    let middle = c.in-ok-write-2.ensures.bytes in
-    let pushed = c.in-ok-put-word-2.ensures in
+    let head = c.in_ok-write.ensures.bytes in
+    let popped = c.in_ok-put_word.ensures in
+    let middle = c.in_ok-write-2.ensures.bytes in
+    let pushed = c.in_ok-put_word-2.ensures in
     let joined = row_joined (string_bytes c.args.text.now) c.args.place c.args.row in
     IfOk-weaker c.writeln.result _ _ (λ _ e. e ∙ joined) (rw (pushed, middle, popped, head) at c.writeln.ensures.bytes)

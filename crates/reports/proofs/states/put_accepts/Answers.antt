@@ -8,7 +8,7 @@ loop-place-init g c = record { whole = refl }
 
 pub loop-place-preserved : goal.loop-place-preserved
 loop-place-preserved g c =
-    number_more c.loop-place.invariant c.accept-accept.ensures c.in-ok-write.ensures.bytes (omega arith)
+    number_more c.loop-place.invariant c.accept-accept.ensures c.in_ok-write.ensures.bytes (omega arith)
 
 pub returns : goal.returns
 returns g c = number_all c.loop-place.invariant (omega arith) (omega arith)

@@ -8,7 +8,7 @@ loop-symbol-init c = record { whole = refl }
 
 pub loop-symbol-preserved : goal.loop-symbol-preserved
 loop-symbol-preserved c =
-    number_more c.loop-symbol.invariant refl c.in-ok-write.ensures.bytes (omega arith)
+    number_more c.loop-symbol.invariant refl c.in_ok-write.ensures.bytes (omega arith)
 
 pub returns : goal.returns
 returns c = number_all c.loop-symbol.invariant (search rules) (omega arith)

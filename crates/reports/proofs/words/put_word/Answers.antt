@@ -7,4 +7,4 @@ pub returns : goal.returns
 returns c =
     let ten : length c.args.word.symbols ≡ 10 = omega arith in
     rw (take_within c.args.word.symbols (c.min-len.result - 0) c.args.word.len (omega arith))
-    at c.put-symbols.ensures
+    at c.put_symbols.ensures

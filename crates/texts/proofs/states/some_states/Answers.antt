@@ -7,10 +7,10 @@ loop-init c = seen_none c.args.text.now (omega arith) c.new-states.ensures.items
 
 pub loop-preserved : goal.loop-preserved
 loop-preserved c =
-    seen_more c.loop.invariant c.in-Some.ensures (omega arith) (omega arith) c.in-ok-push.ensures.items
+    seen_more c.loop.invariant c.in-Some.ensures (omega arith) (omega arith) c.in_ok-push.ensures.items
 
-pub returns-in-default : goal.returns-in-default
-returns-in-default c = seen_stop c.loop.invariant c.in-default.ensures
+pub returns-in_default : goal.returns-in_default
+returns-in_default c = seen_stop c.loop.invariant c.in_default.ensures
 
 pub returns : goal.returns
 returns c = seen_all c.loop.invariant (omega arith)

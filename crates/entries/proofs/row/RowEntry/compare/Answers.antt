@@ -11,5 +11,5 @@ returns c =
     let b = c.args.other.now in
     let r : c.then-2.result ≡ row_rank a b =
     c.then-2.ensures
-    ∙ ap₂ {C = Ordering} ordering_then (c.then.ensures ∙ ap₂ {C = Ordering} ordering_then (lexical_from_cmp (heads a) (heads b) _ c.cmp.ensures) (lexical_from_cmp a.popped.symbols b.popped.symbols _ c.cmp-2.ensures)) (lexical_from_cmp a.pushed.symbols b.pushed.symbols _ c.cmp-3.ensures) in
+    ∙ ap₂ {C = Ordering} ordering_then (c.then.ensures ∙ ap₂ {C = Ordering} ordering_then (c.cmp.ensures ∙ lexical_from_cmp (heads a) (heads b)) (c.cmp-2.ensures ∙ lexical_from_cmp a.popped.symbols b.popped.symbols)) (c.cmp-3.ensures ∙ lexical_from_cmp a.pushed.symbols b.pushed.symbols) in
     record { ranked = r; bytewise = λ h k. r ∙ bytewise a b h k }

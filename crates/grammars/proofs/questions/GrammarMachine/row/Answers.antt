@@ -30,7 +30,7 @@ returns-in-Start c =
     let i = c.in-Start.i in
     let k = c.in-Start.ensures in
     let e = c.starts.ensures ∙ ap (λ (x : GrammarLists). numbers_of x.starts) c.sections-sections.ensures in
-    c.start-row.ensures ∙ at_start g c.args.place i _ (omega arith) k.1 (ap (λ xs. get_or xs i 0) e)
+    c.start_row.ensures ∙ at_start g c.args.place i _ (omega arith) k.1 (ap (λ xs. get_or xs i 0) e)
 
 pub returns-in-Rule : goal.returns-in-Rule
 returns-in-Rule c =
@@ -40,7 +40,7 @@ returns-in-Rule c =
     let i = c.in-Rule.i in
     let k = c.in-Rule.ensures in
     let p : c.args.place ≡ length g.starts + i = omega arith in
-    c.production-row.ensures
+    c.production_row.ensures
     ∙ ap production_row (c.production.ensures ∙ ap (λ (x : GrammarLists). get_or x.productions i zero_production) c.sections-sections.ensures)
     ∙ at_production g c.args.place i (omega arith) p
 
@@ -53,7 +53,7 @@ returns-in-Terminal c =
     let k = c.in-Terminal.ensures in
     let p : c.args.place ≡ length g.starts + length g.productions + i = omega arith in
     let e = c.terminals.ensures ∙ ap (λ (x : GrammarLists). numbers_of x.terminals) c.sections-sections.ensures in
-    c.terminal-row.ensures ∙ at_terminal g c.args.place i _ (omega arith) p (ap (λ xs. get_or xs i 0) e)
+    c.terminal_row.ensures ∙ at_terminal g c.args.place i _ (omega arith) p (ap (λ xs. get_or xs i 0) e)
 
 pub returns-in-Last : goal.returns-in-Last
 returns-in-Last c =
@@ -61,7 +61,7 @@ returns-in-Last c =
     let g = grammar_of t.bytes.now in
     let n = counts t in
     let p : c.args.place ≡ length g.starts + length g.productions + length g.terminals = omega (arith, c.in-Last.ensures) in
-    c.last-row.ensures ∙ at_last g c.args.place p
+    c.last_row.ensures ∙ at_last g c.args.place p
 
 pub returns-in-Past : goal.returns-in-Past
 returns-in-Past c =

@@ -9,14 +9,14 @@ returns-in-Some c =
     let e = c.in-Some.ensures ∙ ap₂ {C = Option ℕ} (λ ts ss. first_terminal ts 0 ss) c.terminals.ensures c.starts.ensures in
     by_starts g (Some c.in-Some.place) e ∙ ap Err (sym c.at.ensures)
 
-pub returns-in-Some-first-left : goal.returns-in-Some-first-left
-returns-in-Some-first-left c =
+pub returns-in-Some-first_left : goal.returns-in-Some-first_left
+returns-in-Some-first_left c =
     let g = read_lists c.args.self.now.bytes.now in
-    let e = c.in-default.ensures ∙ ap₂ {C = Option ℕ} (λ ts ss. first_terminal ts 0 ss) c.terminals.ensures c.starts.ensures in
-    by_starts g None e ∙ by_lefts g (Some c.in-Some-first-left.place) c.in-Some-first-left.ensures ∙ ap Err (sym c.at-in-Some-first-left.ensures)
+    let e = c.in_default.ensures ∙ ap₂ {C = Option ℕ} (λ ts ss. first_terminal ts 0 ss) c.terminals.ensures c.starts.ensures in
+    by_starts g None e ∙ by_lefts g (Some c.in-Some-first_left.place) c.in-Some-first_left.ensures ∙ ap Err (sym c.at-in-Some-first_left.ensures)
 
 pub returns : goal.returns
 returns c =
     let g = read_lists c.args.self.now.bytes.now in
-    let e = c.in-default.ensures ∙ ap₂ {C = Option ℕ} (λ ts ss. first_terminal ts 0 ss) c.terminals.ensures c.starts.ensures in
-    by_starts g None e ∙ by_lefts g None c.in-default-first-left.ensures
+    let e = c.in_default.ensures ∙ ap₂ {C = Option ℕ} (λ ts ss. first_terminal ts 0 ss) c.terminals.ensures c.starts.ensures in
+    by_starts g None e ∙ by_lefts g None c.in_default-first_left.ensures

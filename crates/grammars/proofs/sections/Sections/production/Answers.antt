@@ -10,7 +10,7 @@ use Rattle.grammars.proofs.sections.Sections.production.Goals as goal
 pub returns : goal.returns
 returns c =
     let t = c.args.self.now in
-    c.unwrap-or.ensures
-    ∙ ap (λ o. unwrap_or o zero_production) c.entry-in.ensures
-    ∙ ap (λ bs. unwrap_or (entry_at productions (drop (12 * c.args.place) bs)) zero_production) c.production-bytes.ensures
+    c.unwrap_or.ensures
+    ∙ ap (λ o. unwrap_or o zero_production) c.entry_in.ensures
+    ∙ ap (λ bs. unwrap_or (entry_at productions (drop (12 * c.args.place) bs)) zero_production) c.production_bytes.ensures
     ∙ stands productions productions_laws (read_lists t.bytes.now).productions c.args.place zero_production (places t).limits

@@ -1,4 +1,4 @@
-use Rattle.std.proofs.Common.{◌≡◌, ◌*◌, drop, unwrap_or, ap, ◌∙◌}
+use Rattle.std.proofs.Common.{◌*◌, drop, unwrap_or, ap, ◌∙◌}
 use Rattle.machine.specs.Rows.{zero_row}
 use Rattle.entries.specs.Sorts.{entry_at}
 use Rattle.entries.specs.Rows.{rows}
@@ -12,7 +12,7 @@ pub returns : goal.returns
 returns c =
     let t = c.args.self.now in
     let l = limits_of t.bytes.now t.sizes t.lawful in
-    c.unwrap-or.ensures
-    ∙ ap (λ o. unwrap_or o zero_row) c.entry-in.ensures
-    ∙ ap (λ bs. unwrap_or (entry_at rows (drop (25 * c.args.place) bs)) zero_row) c.row-bytes.ensures
+    c.unwrap_or.ensures
+    ∙ ap (λ o. unwrap_or o zero_row) c.entry_in.ensures
+    ∙ ap (λ bs. unwrap_or (entry_at rows (drop (25 * c.args.place) bs)) zero_row) c.row_bytes.ensures
     ∙ stands rows rows_laws (lists_of t.bytes.now).rows c.args.place zero_row l.rows

@@ -1,4 +1,4 @@
-use Rattle.std.proofs.Common.{◌≡◌, ℕ, ◌+◌, ◌<◌, ◌≤◌, max, ◌++◌, length, drop, sym, ap, ◌∙◌, ap₂, arith}
+use Rattle.std.proofs.Common.{◌≡◌, ℕ, ◌+◌, ◌<◌, ◌≤◌, max, ◌++◌, length, drop, ap, ◌∙◌, ap₂, arith}
 use Rattle.machine.specs.Rows.{zero_row}
 use Rattle.machine.specs.Lists.{above, ends}
 use Rattle.tables.specs.Tables.{lists_of}
@@ -22,6 +22,6 @@ returns c =
     let m = lists_of t.bytes.now in
     let h : length m.rows ≤ c.loop-place.place = omega (arith, (places t).count_rows) in
     let e = rows_finish m.rows c.loop-place.place c.loop-place.width _ h c.loop-place.invariant in
-    let a : c.above-states.result ≡ above m.starts = c.above-states.ensures ∙ ap above c.start-bytes.ensures in
-    let b : c.above-states-2.result ≡ above m.accepts = c.above-states-2.ensures ∙ ap above c.accept-bytes.ensures in
+    let a : c.above_states.result ≡ above m.starts = c.above_states.ensures ∙ ap above c.start_bytes.ensures in
+    let b : c.above_states-2.result ≡ above m.accepts = c.above_states-2.ensures ∙ ap above c.accept_bytes.ensures in
     omega (arith, e, a, b, c.max-states.ensures, above-append m.starts (m.accepts ++ ends m.rows), above-append m.accepts (ends m.rows))

@@ -2,14 +2,14 @@ use Rattle.std.proofs.Common.{◌≡◌, ◌+◌, ◌-◌, take, drop, ap, ◌�
 use Rattle.tables.proofs.Places.{places}
 use Rattle.tables.proofs.table.Table.accept_bytes.Goals as goal
 
-pub overflow-add-begin : goal.overflow-add-begin
-overflow-add-begin c = let p = places c.args.self.now in search rules
+pub overflow_add-begin : goal.overflow_add-begin
+overflow_add-begin c = let p = places c.args.self.now in search rules
 
-pub overflow-add-end : goal.overflow-add-end
-overflow-add-end c = let p = places c.args.self.now in search rules
+pub overflow_add-end : goal.overflow_add-end
+overflow_add-end c = let p = places c.args.self.now in search rules
 
-pub slice-bounds-result-end : goal.slice-bounds-result-end
-slice-bounds-result-end c = let p = places c.args.self.now in search rules
+pub slice_bounds-result-end : goal.slice_bounds-result-end
+slice_bounds-result-end c = let p = places c.args.self.now in search rules
 
 pub returns : goal.returns
 returns c = let p = places c.args.self.now in

@@ -15,14 +15,14 @@ put-requires g c =
 
 pub loop-next-preserved : goal.loop-next-preserved
 loop-next-preserved g c =
-    let p = c.in-ok-put.ensures in
+    let p = c.in_ok-put.ensures in
     so_far_more _ g.met.T.Entry.laws _ _ _ _ _ _ _ c.loop-next.invariant _ c.next-item.is c.loop-next-test.true _ _ p.outcome (p.few c.loop-next.invariant.few) p.begin
 
-pub returns-in-err-put : goal.returns-in-err-put
-returns-in-err-put g c =
-    let b = c.in-err-put.ensures in
+pub returns-in_err-put : goal.returns-in_err-put
+returns-in_err-put g c =
+    let b = c.in_err-put.ensures in
     let i = c.loop-next.invariant in
-    let p = err_from_is_err_and c.from-residual.result c.from-residual.ensures.1 in
+    let p = err_from_is_err_and c.from_residual.result c.from_residual.ensures.1 in
     rw (p.1, p.2) (record {
       outcome = stopped _ g.met.T.Entry.laws _ _ _ _ _ _ _ i _ c.next-item.is c.loop-next-test.true _ _ _ b.outcome;
       welcome = never _ g.met.T.Entry.laws _ _ _ _ _ _ _ i _ c.next-item.is c.loop-next-test.true _ _ _ b.outcome;

@@ -6,7 +6,7 @@ pub returns : goal.returns
 returns c =
     let by = c.finish.ensures.written in
     let n = c.finish.ensures.size in
-    let b = typed c.finish.new.out (λ i. (c.type-inv.out i).fits) in
+    let b = typed c.finish.new.out (λ i. (c.type_inv.out i).fits) in
     record {
       written = by;
       size = n;
