@@ -12,7 +12,7 @@ use Rattle.grammars.specs.Productions.{zero_production}
 use Rattle.grammars.specs.Grammars.{lefts_of, is_among, first_terminal, Apart}
 
 -- What `contains` tells.
-pub among : (ts : List ℕ) (s : ℕ) (r : Bool) → IsAnyAnswer (λ y t. Decides t (y ≡ s)) ts r → r ≡ is_among s ts
+pub among : (ts : List ℕ) (s : ℕ) (r : Bool) → IsAnyAnswer (λ y t. eqb y s ≡ t) ts r → r ≡ is_among s ts
 among ts s r h =
     same_from_decides r (is_among s ts) (contains_decides eqb Decides-eqb ts s r h)
     (Decides-by_or (λ t. eqb t s) (λ t. t ≡ s) (is_among s) (λ t. Decides-eqb t s) refl (λ _ _. refl) ts)

@@ -29,7 +29,7 @@ module _ (xs : List ℕ) (typed : (i : ℕ) → get_or xs i 0 < 256) where
   above : All (λ b. b < 255) xs → Has xs 255 → ⊥
   above h k = let e = all-has (λ b. b < 255) xs 255 h k in omega arith
 
-  pub lacks : (r : Bool) → IsAnyAnswer (λ y t. Decides t (y ≡ 255)) xs r → not r ≡ all not_bottom xs
+  pub lacks : (r : Bool) → IsAnyAnswer (λ y t. eqb y 255 ≡ t) xs r → not r ≡ all not_bottom xs
   lacks r h =
       let none = Decides-not r (contains_decides eqb Decides-eqb xs 255 r h) in
       let each = Decides-by_and not_bottom (λ b. b < 255) (all not_bottom) (λ b. Decides-ltb b 255) refl (λ _ _. refl) xs in

@@ -4,4 +4,4 @@ use Rattle.grammars.proofs.grammar.Grammar.empty.Goals as goal
 
 pub invariant_of-result : goal.invariant_of-result
 unfolding read_file
-invariant_of-result c = (refl, tt)
+invariant_of-result c = record { lawful = refl }

@@ -9,5 +9,5 @@ returns c =
     let a = c.args.self.now in
     let b = c.args.other.now in
     c.then.ensures
-    ∙ ap₂ {C = Ordering} ordering_then (lexical_from_cmp (a.left ∷ a.right.len ∷ []) (b.left ∷ b.right.len ∷ []) _ c.cmp.ensures) (lexical_from_cmp a.right.symbols b.right.symbols _ c.cmp-2.ensures)
+    ∙ ap₂ {C = Ordering} ordering_then (c.cmp.ensures ∙ lexical_from_cmp (a.left ∷ a.right.len ∷ []) (b.left ∷ b.right.len ∷ [])) (c.cmp-2.ensures ∙ lexical_from_cmp a.right.symbols b.right.symbols)
     ∙ bytewise a b
