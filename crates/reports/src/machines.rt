@@ -6,11 +6,10 @@ use crate::rows::put_rows;
 use crate::states::{put_accepts, put_starts};
 use machine::machine::Machine;
 use std::alloc::{AllocError, Global};
-use std::fmt;
 
 // The first line, by which a reader knows how many of each to expect.
-fn put_counts<M: Machine>(text: &mut String, m: &M) -> fmt::Result
-    ensures { OnOk result (string_bytes text.new ≡ string_bytes text.old ++ counts_text (lists m.now)) }
+fn put_counts<M: Machine>(text: &mut String, m: &M) -> Result<(), AllocError>
+    ensures { OnOk result (string_bytes text.new ≡ string_bytes text.old ++ counts_text (M.lists m.now)) }
 {
     let starts = m.start_count();
     let accepting = m.accept_count();
@@ -23,8 +22,8 @@ fn put_counts<M: Machine>(text: &mut String, m: &M) -> fmt::Result
 }
 
 // Appends the whole text; where that fails, nothing is said of what was appended so far.
-fn put_machine<M: Machine>(text: &mut String, m: &M) -> fmt::Result
-    ensures { OnOk result (string_bytes text.new ≡ string_bytes text.old ++ machine_text (lists m.now)) }
+fn put_machine<M: Machine>(text: &mut String, m: &M) -> Result<(), AllocError>
+    ensures { OnOk result (string_bytes text.new ≡ string_bytes text.old ++ machine_text (M.lists m.now)) }
 {
     put_counts(text, m)?;
     write!(text, "start")?;
@@ -35,13 +34,11 @@ fn put_machine<M: Machine>(text: &mut String, m: &M) -> fmt::Result
     put_rows(text, m)
 }
 
-// The whole text of a machine. Appending fails only for want of memory, so that is the error told.
+// The whole text of a machine.
 pub fn machine_text<M: Machine>(heap: Global, m: &M) -> Result<String, AllocError>
-    ensures { IfOk result (λ t. string_bytes t ≡ machine_text (lists m.now)) }
+    ensures { IfOk result (λ t. string_bytes t ≡ machine_text (M.lists m.now)) }
 {
     let mut text = String::new(heap);
-    match put_machine(&mut text, m) {
-        Ok(()) => Ok(text),
-        Err(_) => Err(AllocError),
-    }
+    put_machine(&mut text, m)?;
+    Ok(text)
 }

@@ -4,10 +4,10 @@ ghost use Rattle.machine.specs.Rows.{symbols_of};
 ghost use Rattle.reports.specs.Texts.{numbers_text};
 
 use machine::row::Word;
-use std::fmt;
+use std::alloc::AllocError;
 
 // Each symbol after a space, or a dash where there is none.
-fn put_symbols(text: &mut String, symbols: &[u8]) -> fmt::Result
+fn put_symbols(text: &mut String, symbols: &[u8]) -> Result<(), AllocError>
     ensures { OnOk result (string_bytes text.new ≡ string_bytes text.old ++ numbers_text symbols.now) }
 {
     if symbols.is_empty() {
@@ -20,7 +20,7 @@ fn put_symbols(text: &mut String, symbols: &[u8]) -> fmt::Result
 }
 
 // The symbols of a word, the first nearest the top of the stack.
-pub(crate) fn put_word(text: &mut String, word: Word) -> fmt::Result
+pub(crate) fn put_word(text: &mut String, word: Word) -> Result<(), AllocError>
     ensures { OnOk result (string_bytes text.new ≡ string_bytes text.old ++ numbers_text (symbols_of word)) }
 {
     // a word has no more symbols than its array, whatever `len` says

@@ -16,9 +16,9 @@ use machine::row::Row;
 impl<T: Entry> Stage<T> {
     // Puts the entries in their order, up to the first that is refused.
     pub(crate) fn put_all(&mut self, kind: Kind, out: &mut [u8], entries: &[T]) -> Result<(), Fault>
-        requires { (Small sort self.old) × ((SmallKind kind) × (self.old.count ≤ kind.most)) }
-        ensures outcome { (old done : List ℕ) → 4 ≤ length done + 2 * kind.later → Writing sort kind old done [] self.old out.old → AllPut sort kind old done entries.now result self.new out.new }
-        ensures welcome { (old done : List ℕ) → 4 ≤ length done + 2 * kind.later → Writing sort kind old done [] self.old out.old → Lawful sort kind.most entries.now → length (done ++ section_bytes sort entries.now) + 2 * kind.later ≤ length old → is_ok result ≡ true }
+        requires { (Small T.sort self.old) × ((SmallKind kind) × (self.old.count ≤ kind.most)) }
+        ensures outcome { (old done : List ℕ) → 4 ≤ length done + 2 * kind.later → Writing T.sort kind old done [] self.old out.old → AllPut T.sort kind old done entries.now result self.new out.new }
+        ensures welcome { (old done : List ℕ) → 4 ≤ length done + 2 * kind.later → Writing T.sort kind old done [] self.old out.old → Lawful T.sort kind.most entries.now → length (done ++ section_bytes T.sort entries.now) + 2 * kind.later ≤ length old → is_ok result ≡ true }
         ensures few { self.new.count ≤ kind.most }
         ensures begin { self.new.begin ≡ self.old.begin }
     {

@@ -47,23 +47,23 @@ impl<T: Entry> Stage<T> {
 
     // The place behind the entries.
     fn end(&self) -> usize
-        requires { Small sort self.now }
-        ensures { result ≡ end_of sort self.now }
+        requires { Small T.sort self.now }
+        ensures { result ≡ end_of T.sort self.now }
     {
         self.begin + 2 + T::width() * self.count
     }
 
     // How long the output has to be for one more entry and the counts of the later sections.
     fn needed(&self, kind: Kind) -> usize
-        requires { (Small sort self.now) × (SmallKind kind) }
-        ensures { result ≡ needed sort kind self.now }
+        requires { (Small T.sort self.now) × (SmallKind kind) }
+        ensures { result ≡ needed T.sort kind self.now }
     {
         self.end() + T::width() + 2 * kind.later
     }
 
     // Whether the entry may come next.
     fn is_followed_by(&self, entry: &T) -> bool
-        ensures { result ≡ follows sort self.now.last entry.now }
+        ensures { result ≡ follows T.sort self.now.last entry.now }
     {
         match &self.last {
             Some(last) => last.compare(entry).is_lt(),
@@ -73,8 +73,8 @@ impl<T: Entry> Stage<T> {
 
     // Why the entry may not be put into an output of so many bytes, if so.
     fn put_fault(&self, kind: Kind, room: usize, entry: &T) -> Option<Fault>
-        requires { (Small sort self.now) × (SmallKind kind) }
-        ensures { result ≡ put_fault sort kind self.now room entry.now }
+        requires { (Small T.sort self.now) × (SmallKind kind) }
+        ensures { result ≡ put_fault T.sort kind self.now room entry.now }
     {
         if !entry.is_lawful() {
             return Some(Rule::Limits.at(kind.section, self.count));
@@ -93,8 +93,8 @@ impl<T: Entry> Stage<T> {
 
     // Puts the entry behind the others, or refuses it and changes nothing.
     pub(crate) fn put(&mut self, kind: Kind, out: &mut [u8], entry: T) -> Result<(), Fault>
-        requires { (Small sort self.old) × (SmallKind kind) }
-        ensures outcome { Put sort kind self.old out.old entry result self.new out.new }
+        requires { (Small T.sort self.old) × (SmallKind kind) }
+        ensures outcome { Put T.sort kind self.old out.old entry result self.new out.new }
         ensures few { self.old.count ≤ kind.most → self.new.count ≤ kind.most }
         ensures begin { self.new.begin ≡ self.old.begin }
     {
@@ -109,7 +109,7 @@ impl<T: Entry> Stage<T> {
 
     // Writes the count, where it and those of the later sections fit; answers whether they do.
     fn close(&self, kind: Kind, out: &mut [u8]) -> bool
-        requires { (Small sort self.now) × (SmallKind kind) }
+        requires { (Small T.sort self.now) × (SmallKind kind) }
         ensures fits { result ≡ count_fits kind self.now (length out.old) }
         ensures after { out.new ≡ closed kind self.now out.old }
     {
@@ -131,9 +131,9 @@ impl<T: Entry> Stage<T> {
 
     // Writes the count where it fits; answers where the section ends, or 0 where its count did not fit.
     pub(crate) fn finish(&self, kind: Kind, out: &mut [u8]) -> usize
-        requires { (Small sort self.now) × (SmallKind kind) }
+        requires { (Small T.sort self.now) × (SmallKind kind) }
         ensures written { out.new ≡ closed kind self.now out.old }
-        ensures size { result ≡ (if count_fits kind self.now (length out.old) then end_of sort self.now else 0) }
+        ensures size { result ≡ (if count_fits kind self.now (length out.old) then end_of T.sort self.now else 0) }
     {
         if self.close(kind, out) { self.end() } else { 0 }
     }
