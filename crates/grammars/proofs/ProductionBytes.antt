@@ -1,5 +1,5 @@
 -- What the code of a rule's entry finds in its bytes.
-use Rattle.std.proofs.Common.{◌≡◌, ℕ, ◌<◌, Bool, not, eqb, List, [], ◌∷◌, length, get_or, Decides, sym, refl, ◌∙◌, inl, inr, arith}
+use Rattle.std.proofs.Common.{◌≡◌, ℕ, ◌<◌, Bool, not, eqb, List, [], ◌∷◌, length, get_or, sym, refl, ◌∙◌, inl, inr, arith}
 use Rattle.std.specs.Ordering.{ordering_then}
 use Rattle.std.specs.List.{IsAnyAnswer, ContainsAt as Has, AllByRecursion as All}
 use Rattle.std.proofs.lemmas.List.{get_or_default}

@@ -1,7 +1,6 @@
 -- A machine and a fault, and their texts written out.
-use Rattle.std.proofs.Common.{◌≡◌, List, [], ◌∷◌, ◌++◌, replicate, codes, refl}
+use Rattle.std.proofs.Common.{◌≡◌, [], ◌∷◌, replicate, codes, refl}
 use Rattle.std.specs.Fmt.{digits}
-use Rattle.machine.specs.declared.row.Word.{Word}
 use Rattle.machine.specs.declared.fault.Rule.TheVariants.{Limits}
 use Rattle.machine.specs.Rows.{empty_word}
 use Rattle.machine.specs.Faults.{fault}

@@ -1,6 +1,5 @@
 -- Texts written by hand: one without the line of counts, and some that cannot be read.
-use Rattle.std.proofs.Common.{◌≡◌, List, [], ◌∷◌, ◌++◌, replicate, Ok, Err, codes, refl}
-use Rattle.machine.specs.declared.row.Word.{Word}
+use Rattle.std.proofs.Common.{◌≡◌, [], ◌∷◌, replicate, Ok, Err, codes, refl}
 use Rattle.machine.specs.Rows.{empty_word}
 use Rattle.machine.specs.Lists.{Lists}
 use Rattle.texts.specs.Reading.{read_some, read_rows, read_machine}

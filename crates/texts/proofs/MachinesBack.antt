@@ -1,12 +1,12 @@
 -- The text of a machine is read as the machine.
-use Rattle.std.proofs.Common.{◌≡◌, ℕ, suc, ◌+◌, ◌/◌, ◌%◌, ◌^◌, ◌<◌, ◌≤◌, max, Bool, true, false, cond, ◌&&◌, List, [], ◌∷◌, ◌++◌, length, Some, None, Ok, Err, codes, decimal, Option, Result, sym, refl, ap, ◌∙◌, append_assoc, arith}
+use Rattle.std.proofs.Common.{◌≡◌, ℕ, ◌+◌, ◌%◌, ◌^◌, ◌<◌, ◌≤◌, true, cond, List, [], ◌∷◌, ◌++◌, length, Some, Ok, Err, codes, decimal, refl, ap, ◌∙◌, append_assoc, arith}
 use Rattle.std.proofs.lemmas.Bool.{and_parts, and_from, ltb-true, ne_eqb}
 use Rattle.std.proofs.lemmas.Fmt.{decimal_by_steps}
 use Rattle.machine.specs.declared.row.Row.{Row}
 use Rattle.machine.specs.Rows.{is_byte, lawful_row}
 use Rattle.machine.specs.Lists.{Lists, Few, Limits, all, ends, above, width_of}
 use Rattle.reports.specs.Texts.{numbers_text, rows_text, machine_text}
-use Rattle.texts.specs.Reading.{Read, read, either, read_states, read_rows, with_rows, read_lists, next_line, read_machine}
+use Rattle.texts.specs.Reading.{read, either, read_states, read_rows, with_rows, read_lists, next_line, read_machine}
 use Rattle.texts.specs.Laws.{ReadsBack}
 use Rattle.texts.proofs.NumbersBack.{states_back}
 use Rattle.texts.proofs.RowsBack.{rows_back, length-rows}

@@ -1,12 +1,11 @@
 -- Numbers and words are read as they are written.
-use Rattle.std.proofs.Common.{◌≡◌, ℕ, zero, suc, ◌+◌, ◌-◌, ◌<◌, ◌≤◌, Bool, true, false, cond, ◌&&◌, eqb, ltb, leb, List, [], ◌∷◌, ◌++◌, length, take, replicate, Some, None, codes, decimal, Option, sym, refl, ap, ◌∙◌, append_assoc, arith, length-append}
-use Rattle.std.specs.Char.{is_ascii_digit}
+use Rattle.std.proofs.Common.{◌≡◌, ℕ, zero, suc, ◌+◌, ◌-◌, ◌≤◌, true, false, cond, eqb, ltb, leb, List, [], ◌∷◌, ◌++◌, length, take, replicate, Some, None, codes, decimal, sym, refl, ap, ◌∙◌, append_assoc, arith, length-append}
 use Rattle.std.proofs.lemmas.Bool.{and_parts, and_from, leb-true, ltb-true, eqb-true, ne_eqb}
 use Rattle.machine.specs.declared.row.Word.{Word}
 use Rattle.machine.specs.Rows.{is_byte, is_symbol, padded, lawful_word, symbols_of}
 use Rattle.machine.specs.Lists.{all}
 use Rattle.reports.specs.Texts.{spaced, numbers_text}
-use Rattle.texts.specs.Reading.{Read, read, either, ended, digit_first, read_byte, read_spaced, put_front, read_some, read_numbers, after, word_of, read_word, read_states}
+use Rattle.texts.specs.Reading.{read, either, ended, digit_first, read_byte, read_spaced, put_front, read_some, read_numbers, after, word_of, read_word, read_states}
 use Rattle.texts.proofs.Fronts.{there}
 use Rattle.texts.proofs.Decimals.{spells, byte_back}
 use Rattle.texts.proofs.Somes.{some_more, some_stop}

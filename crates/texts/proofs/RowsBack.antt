@@ -1,13 +1,12 @@
 -- Rows are read as they are written.
-use Rattle.std.proofs.Common.{◌≡◌, ℕ, zero, suc, ◌+◌, ◌-◌, ◌<◌, ◌≤◌, Bool, true, false, ◌&&◌, eqb, List, [], ◌∷◌, ◌++◌, length, Some, None, Ok, codes, decimal, Option, sym, refl, ap, ◌∙◌, append_assoc, arith, length-append}
+use Rattle.std.proofs.Common.{◌≡◌, ℕ, ◌+◌, ◌-◌, ◌<◌, ◌≤◌, true, List, [], ◌∷◌, ◌++◌, length, Some, Ok, codes, decimal, Option, refl, ap, ◌∙◌, append_assoc, arith, length-append}
 use Rattle.std.proofs.lemmas.Bool.{and_parts, ltb-true, ne_eqb}
 use Rattle.machine.specs.declared.row.Word.{Word}
 use Rattle.machine.specs.declared.row.Row.{Row}
 use Rattle.machine.specs.Rows.{is_byte, lawful_word, lawful_row, pops, pushes}
 use Rattle.machine.specs.Lists.{all}
 use Rattle.reports.specs.Texts.{numbers_text, row_text, rows_text}
-use Rattle.texts.specs.Reading.{Read, read, and_then, ended, read_number, read_byte, read_word, read_after, read_row, with_row, read_rows}
-use Rattle.texts.proofs.Fronts.{there}
+use Rattle.texts.specs.Reading.{Read, read, and_then, ended, read_word, read_after, read_row, with_row, read_rows}
 use Rattle.texts.proofs.Decimals.{number_back, byte_back}
 use Rattle.texts.proofs.NumbersBack.{word_back}
 use Rattle.texts.proofs.Lines.{rows_end, rows_more}
