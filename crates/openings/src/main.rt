@@ -172,6 +172,6 @@ mod tests {
         assert_eq!(rt; table.accept_count(), 0);
         assert_eq!(rt; table.row_count(), 0);
         assert_eq!(rt; table.width(), 0);
-        assert!(rt; table.bytes() == [0; 6]);
+        assert!(rt; table.bytes() == [0; 6].as_slice());
     }
 }

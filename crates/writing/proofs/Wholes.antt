@@ -1,5 +1,5 @@
 -- A whole table: all the entries of a stage, and then the next stage.
-use Rattle.std.proofs.Common.{◌≡◌, ℕ, ◌+◌, ◌*◌, ◌<◌, ◌≤◌, true, ◌⊎◌, List, [], ◌∷◌, ◌++◌, length, is_ok, Ok, Err, Result, ap, inl, inr, arith, MatchResult}
+use Rattle.std.proofs.Common.{◌≡◌, ℕ, ◌+◌, ◌*◌, ◌<◌, ◌≤◌, List, [], ◌++◌, length, Ok, Err, Result, ap, inl, inr, arith, MatchResult}
 use Rattle.std.proofs.lemmas.List.{append_assoc, length-append}
 use Rattle.std.proofs.lemmas.Bool.{cases_lt}
 use Rattle.machine.specs.declared.fault.Fault.{Fault}
@@ -15,7 +15,7 @@ use Rattle.writing.specs.declared.stages.AcceptsStage.{AcceptsStage}
 use Rattle.writing.specs.declared.stages.RowsStage.{RowsStage}
 use Rattle.writing.specs.Stages.{starts_kind, accepts_kind, rows_kind}
 use Rattle.writing.specs.Histories.{Writing, WritingAccepts, WritingRows, Finished, table_of}
-use Rattle.writing.specs.Wholes.{Stopped, AllPut, Unwritten}
+use Rattle.writing.specs.Wholes.{AllPut, Unwritten}
 use Rattle.writing.specs.Wholes.Unwritten.{in_starts, in_accepts, in_rows, no_room}
 
 -- the sections of a table fit where the whole table does

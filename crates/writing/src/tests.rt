@@ -97,7 +97,10 @@ fn a_refused_put_leaves_no_trace(rt: HostRuntime) -> Result<(), Fail> {
     bad.popped.len = 11;
     assert_eq!(rt; rows.put(&mut out, bad), Err(Rule::Limits.at(3, 0)));
     assert_eq!(rt; rows.finish(&mut out), 9);
-    assert_eq!(rt; &out[..10], b"\x00\x02\x04\x05\x00\x01\x07\x00\x00\x09");
+    assert_eq!(rt;
+        &out[..10],
+        b"\x00\x02\x04\x05\x00\x01\x07\x00\x00\x09".as_slice()
+    );
     Ok(())
 }
 

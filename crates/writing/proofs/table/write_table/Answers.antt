@@ -1,4 +1,4 @@
-use Rattle.std.proofs.Common.{sym, refl, arith}
+use Rattle.std.proofs.Common.{refl, arith}
 use Rattle.std.proofs.lemmas.Result.{err_from_is_err_and}
 use Rattle.writing.proofs.Wholes.{long_enough, nothing, never_nothing, within}
 use Rattle.writing.proofs.table.write_table.Goals as goal
