@@ -2,7 +2,7 @@
 use Rattle.std.proofs.Common.{◌≡◌, ℕ, ◌+◌, ◌<◌, ◌≤◌, Bool, true, false, cond, List, [], ◌∷◌, ◌++◌, length, get_or, take, drop, sym, refl, ap, ◌∙◌, arith}
 use Rattle.std.proofs.lemmas.List.{take_more, take-append-drop}
 use Rattle.std.proofs.lemmas.Bool.Decides.{nat_tests}
-use mir.Val.{bool_byte}
+use mir.Val.{bool_byte as byte_of}
 use Rattle.marking.specs.declared.counts.Counts.{Counts}
 use Rattle.marking.specs.Marks.{count_if}
 
@@ -30,7 +30,7 @@ count_if-take ok ks i =
     let p = count_if-append ok (take i ks) (drop i ks) in
     omega arith
 
-pub bool_byte : (b : Bool) → bool_byte b ≡ cond b 1 0
+pub bool_byte : (b : Bool) → byte_of b ≡ cond b 1 0
 bool_byte true = refl
 bool_byte false = refl
 

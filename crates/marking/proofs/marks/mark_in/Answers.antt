@@ -45,11 +45,11 @@ mark_graph-requires g c =
     let p = parts_in m n c.node_count-size.ensures.0 in
     record {
       shape = (
-        shaped m low n _ _ _ d f (omega (arith, c.split_at_mut-labels.ensures.front-len)) (omega (arith, c.split_at_mut-nexts.ensures.front-len)),
+        shaped m low n _ _ _ d f (omega (arith, c.split_at_mut-labels.ensures.front_len)) (omega (arith, c.split_at_mut-nexts.ensures.front_len)),
         (
-          omega (arith, c.split_at_mut-cells.ensures.front-len),
+          omega (arith, c.split_at_mut-cells.ensures.front_len),
           (
-            omega (arith, c.split_at_mut-good.ensures.front-len),
+            omega (arith, c.split_at_mut-good.ensures.front_len),
             (
               omega (arith, c.row_count.ensures, c.split_at_mut-cells.ensures.back_len, c.split_at_mut-good.ensures.back_len, c.split_at_mut-labels.ensures.back_len, c.split_at_mut-nexts.ensures.back_len, c.split_at_mut-firsts.ensures.back_len),
               c.node_count-size.ensures.1,
@@ -57,7 +57,7 @@ mark_graph-requires g c =
           ),
         ),
       );
-      rows = (fit m low n _ _ _ d f (omega (arith, c.row_count.ensures, c.split_at_mut-firsts.ensures.front-len)), c.requires.1);
+      rows = (fit m low n _ _ _ d f (omega (arith, c.row_count.ensures, c.split_at_mut-firsts.ensures.front_len)), c.requires.1);
       starts = starts_in m low n _ _ _ d f;
       accepts = accepts_in m low n _ _ _ d f;
       drawn = draws m low n _ _ _ d f;
