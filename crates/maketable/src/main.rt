@@ -5,7 +5,7 @@
 use anyhow::anyhow;
 use reports::faults::fault_text;
 use std::io::Read;
-use texts::entries::Entries;
+use texts::lists::Entries;
 use texts::reading::read_text;
 use texts::unread::Unread;
 use writing::table::write_table;

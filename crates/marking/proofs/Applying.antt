@@ -1,9 +1,9 @@
 -- A row applied to the edges.
-use Rattle.std.proofs.Common.{◌≡◌, ℕ, ◌+◌, ◌*◌, ◌<◌, ◌≤◌, Bool, true, false, ◌&&◌, T, ltb, leb, ◌⊎◌, List, length, get_or, take, sym, refl, ap, ◌∙◌, subst, inl, inr, ⊎_elim, arith}
+use Rattle.std.proofs.Common.{◌≡◌, ℕ, ◌<◌, Bool, true, false, ◌&&◌, T, ltb, leb, List, length, get_or, sym, refl, subst, arith}
 use Rattle.std.proofs.lemmas.Bool.{leb-true, ltb-true, le-leb, lt-ltb, and_parts, and_from}
 use Rattle.theory.specs.Graph.{Graph}
-use Rattle.marking.specs.Relations.{Member, On, Holds, Adds, Preorder, Down, Onto, IsLine}
-use Rattle.marking.specs.Nodes.{Shaped, Drawn, Level, Filled, Follows}
+use Rattle.marking.specs.Relations.{Member, Holds, Adds, Preorder, Down, Onto, IsLine}
+use Rattle.marking.specs.Nodes.{Drawn, Level, Filled, Follows}
 use Rattle.marking.proofs.Cells.{adds_as}
 use Rattle.marking.proofs.Trails.{level_down}
 

@@ -1,9 +1,9 @@
 -- One word of a matrix or a set, written.
-use Rattle.std.proofs.Common.{◌≡◌, ℕ, zero, suc, ◌+◌, ◌-◌, ◌*◌, ◌/◌, ◌%◌, ◌<◌, ◌≤◌, max, eqb, ◌⊎◌, List, [], ◌∷◌, length, get_or, take, drop, set, MatchBool, sym, refl, ap, ◌∙◌, inl, inr, ⊎_elim, mul-le-mul_right, add-mul, arith}
+use Rattle.std.proofs.Common.{◌≡◌, ℕ, ◌+◌, ◌-◌, ◌*◌, ◌/◌, ◌%◌, ◌<◌, ◌≤◌, max, eqb, ◌⊎◌, List, length, get_or, take, drop, set, MatchBool, sym, refl, ap, ◌∙◌, inl, inr, ⊎_elim, mul-le-mul_right, add-mul, arith}
 use Rattle.std.proofs.lemmas.Nat.{mul-add-lt, div-mul-add, mod-mul-add}
 use Rattle.std.proofs.lemmas.List.{get_or-set_same, get_or-set_other, get_or_past, get_or-take, get_or-drop, length-take, length-drop}
 use Rattle.std.proofs.lemmas.Bool.{cases_eq, cases_lt, eq-eqb, ne_eqb}
-use Rattle.marking.specs.Relations.{Member, On, Holds, Adds, Gains, Identity, Preorder, IsLine}
+use Rattle.marking.specs.Relations.{Member, Holds, Adds, Gains, Identity, Preorder, IsLine}
 
 pub place_in : (ws : List ℕ) (n h x y : ℕ) → x < n → y < h → length ws ≡ h * n → y * n + x < length ws
 place_in ws n h x y i j e = omega (arith, mul-add-lt y n x h j i)

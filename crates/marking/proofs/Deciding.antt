@@ -1,22 +1,21 @@
 -- Complete relations and sets decide which rows, starts and accepting states are reachable and useful.
-use Rattle.std.proofs.Common.{◌≡◌, ℕ, zero, suc, ◌+◌, ◌*◌, ◌<◌, ◌≤◌, true, T, ◌↔◌, List, [], ◌∷◌, ◌++◌, length, get_or, take, sym, refl, ap, ◌∙◌, subst, inl, inr, arith}
+use Rattle.std.proofs.Common.{◌≡◌, ℕ, zero, suc, ◌<◌, true, T, List, [], ◌∷◌, ◌++◌, length, get_or, sym, refl, ap, subst, arith}
 use mathlib.Core.List.{Memᴰ}
 use Rattle.std.proofs.lemmas.List.{take_all}
 use Rattle.machine.specs.declared.row.Row.{Row}
 use Rattle.machine.specs.Rows.{zero_row, pops}
 use Rattle.machine.specs.Lists.{Lists}
-use Rattle.machine.specs.Runs.{Reachable, UsefulRow, UsefulStart, UsefulAccept}
 use Rattle.theory.specs.Graph.{Graph, Trail, here, edge, down, Within, Lean, At, Lawful, Sound, Closed, Accepts, Good, Back}
 use Rattle.theory.specs.Graph as graph
 use Rattle.theory.proofs.Steps.{stays, goes}
-use Rattle.theory.proofs.Useful.{placed, member, sound_trail, at_state, reachable, useful_start, useful_accept, useful_row}
-use Rattle.marking.specs.Relations.{Member, Holds, Identity, Preorder}
-use Rattle.marking.specs.Nodes.{Drawn, Level}
-use Rattle.marking.specs.Reach.{Ahead, Behind, IsAhead, IsBehind}
+use Rattle.theory.proofs.Useful.{member, sound_trail, at_state, reachable, useful_start, useful_accept, useful_row}
+use Rattle.marking.specs.Relations.{Holds, Identity}
+use Rattle.marking.specs.Nodes.{Level}
+use Rattle.marking.specs.Reach.{Behind, IsAhead, IsBehind}
 use Rattle.marking.specs.Marks.{row_at}
 use Rattle.marking.specs.Ways.{OnWay}
-use Rattle.marking.specs.Rounds.{Own, Draws, Saturated, BackSaturated, Between, Based}
-use Rattle.marking.specs.Solving.{Leads, Applies, Solved}
+use Rattle.marking.specs.Rounds.{Draws, Saturated, BackSaturated, Based}
+use Rattle.marking.specs.Solving.{Solved}
 use Rattle.marking.proofs.Trails.{level_trail, trail_level, trail_ways}
 use Rattle.marking.proofs.Rounding.{row_stands}
 use Rattle.marking.proofs.Reaching.{behind_trail, trail_behind, behind_end}

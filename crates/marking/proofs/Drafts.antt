@@ -7,9 +7,9 @@ use Rattle.machine.specs.Rows.{zero_row, pushes}
 use Rattle.machine.specs.Lists.{Lists}
 use Rattle.theory.specs.Layout.{Cell, plain, states, word_cells, row_cells, top, firsts, cells, cell_at, graph_of, Fits}
 use Rattle.theory.proofs.Nodes.{length-states, length-word, state_cell, lawful}
-use Rattle.marking.specs.Marks.{row_at, pushed}
+use Rattle.marking.specs.Marks.{pushed}
 use Rattle.marking.specs.Rounds.{Draws}
-use Rattle.marking.specs.Drawing.{next_of, WordDrawn, base_of, DrewRows}
+use Rattle.marking.specs.Drawing.{next_of, WordDrawn, DrewRows}
 
 -- the nodes of a word above its first node
 next_shift : (base prev j : ℕ) → next_of (suc base) base j ≡ next_of base prev (suc j)

@@ -1,22 +1,21 @@
 -- Rounds backward: what lies on a way from a good edge is good.
-use Rattle.std.proofs.Common.{◌≡◌, ℕ, zero, suc, ◌+◌, ◌*◌, ◌<◌, ◌≤◌, Bool, true, false, ◌||◌, T, ◌⊎◌, List, [], ◌∷◌, ◌++◌, length, get_or, take, drop, sym, refl, ap, ◌∙◌, subst, inl, inr, ⊎_elim, append_assoc, arith}
-use mathlib.Core.Option.{Option, some}
+use Rattle.std.proofs.Common.{◌≡◌, ℕ, zero, suc, ◌+◌, ◌*◌, ◌<◌, ◌≤◌, Bool, false, ◌||◌, ◌⊎◌, List, [], ◌∷◌, ◌++◌, length, get_or, take, drop, sym, refl, ap, ◌∙◌, subst, inl, inr, append_assoc, arith}
+use mathlib.Core.Option.{some}
 use mathlib.Core.List.{Memᴰ}
 use lib.ListN.{get_elem?}
 use Rattle.std.proofs.lemmas.List.{take-append-drop, drop_all}
 use Rattle.std.proofs.lemmas.Bool.{cases_lt, cases_eq, cases_Bool, or_parts, false≢true}
 use Rattle.machine.specs.declared.row.Row.{Row}
-use Rattle.machine.specs.Rows.{zero_row, pops, pushes}
+use Rattle.machine.specs.Rows.{pops, pushes}
 use Rattle.machine.specs.Lists.{Lists}
-use Rattle.machine.specs.Runs.{Reach}
-use Rattle.theory.specs.Graph.{Graph, Trail, here, edge, down, At, Lawful, Accepts, Good}
+use Rattle.theory.specs.Graph.{Graph, Trail, edge, down, At, Lawful, Accepts, Good}
 use Rattle.theory.proofs.Steps.{stays, goes, one}
 use Rattle.theory.proofs.Useful.{member, lower, level, at_state, of_state, earlier, sound_trail}
 use Rattle.marking.specs.Relations.{Member, Holds, Adds, IsLine, Steps, Touches, zeros}
 use Rattle.marking.specs.Nodes.{Drawn, Level}
-use Rattle.marking.specs.Ways.{Passed, begin, step, Inside, Last, OnWay}
+use Rattle.marking.specs.Ways.{Passed, begin, step, OnWay}
 use Rattle.marking.specs.Marks.{row_at}
-use Rattle.marking.specs.Rounds.{Own, Draws, RowWalked, Pending, KeepsGood, BackRound, BackSaturated, Between, Based}
+use Rattle.marking.specs.Rounds.{Own, RowWalked, Pending, KeepsGood, BackRound, BackSaturated, Between, Based}
 use Rattle.marking.proofs.Cells.{adds_then, adds_as}
 use Rattle.marking.proofs.Applying.{own_graph, own_drawn}
 use Rattle.marking.proofs.Trails.{level_trail}

@@ -1,19 +1,19 @@
 -- The nodes that were drawn for a machine lie within the words.
-use Rattle.std.proofs.Common.{◌≡◌, ℕ, zero, suc, ◌+◌, ◌-◌, ◌*◌, ◌<◌, ◌≤◌, List, [], ◌∷◌, ◌++◌, length, get_or, sym, refl, ap, ◌∙◌, subst, inl, inr, arith}
+use Rattle.std.proofs.Common.{◌≡◌, ℕ, ◌+◌, ◌-◌, ◌<◌, ◌≤◌, List, [], ◌∷◌, ◌++◌, length, get_or, sym, refl, ap, ◌∙◌, inl, inr, arith}
 use mathlib.Core.List.{Memᴰ}
 use Rattle.std.proofs.lemmas.List.{get_or_append_left, get_or-append_right}
 use Rattle.std.proofs.lemmas.Bool.{cases_lt}
 use Rattle.machine.specs.declared.row.Row.{Row}
-use Rattle.machine.specs.Rows.{zero_row, pushes}
+use Rattle.machine.specs.Rows.{pushes}
 use Rattle.machine.specs.Lists.{Lists}
-use Rattle.theory.specs.Layout.{Cell, plain, word_cells, row_cells, graph_of, Fits}
+use Rattle.theory.specs.Layout.{Cell, plain, word_cells, row_cells, Fits}
 use Rattle.theory.proofs.Nodes.{length-word}
 use Rattle.theory.proofs.Useful.{member}
 use Rattle.marking.specs.Marks.{row_at, pushed}
 use Rattle.marking.specs.Drawing.{next_of, DrewRows, base_of}
 use Rattle.marking.specs.Nodes.{Shaped}
-use Rattle.marking.specs.Rounds.{Fit, Draws}
-use Rattle.marking.proofs.Drafts.{Is, word_cell, cell_past, inner_cell, size}
+use Rattle.marking.specs.Rounds.{Fit}
+use Rattle.marking.proofs.Drafts.{word_cell, cell_past, inner_cell, size}
 use Rattle.marking.proofs.Pushing.{next_small, reach_in}
 use Rattle.marking.proofs.Reaching.{mem_at}
 use Rattle.marking.proofs.Rounding.{row_stands}

@@ -1,13 +1,12 @@
 -- The edges of ways, put down place by place.
-use Rattle.std.proofs.Common.{◌≡◌, ℕ, zero, suc, ◌+◌, ◌*◌, ◌<◌, ◌≤◌, Bool, ◌||◌, ◌⊎◌, List, [], ◌∷◌, length, get_or, take, sym, refl, ap, ◌∙◌, subst, inl, inr, ⊎_elim, add-one, arith}
+use Rattle.std.proofs.Common.{◌≡◌, ℕ, ◌+◌, ◌<◌, ◌≤◌, Bool, ◌||◌, List, length, get_or, take, sym, ap, ◌∙◌, subst, inl, inr, add-one, arith}
 use mathlib.Core.Option.{Option, some, some-injective}
 use lib.ListN.{get_elem?}
-use Rattle.std.proofs.lemmas.Bool.{cases_lt, cases_eq}
+use Rattle.std.proofs.lemmas.Bool.{cases_eq}
 use Rattle.theory.specs.Graph.{Graph}
-use Rattle.theory.specs.Levels.{Reads}
 use Rattle.marking.specs.Relations.{Member, On, Holds, IsLine, Steps}
 use Rattle.marking.specs.Nodes.{Shaped, Drawn, Filled}
-use Rattle.marking.specs.Ways.{Passed, Inside, Last, OnWay, Walked, Leaves}
+use Rattle.marking.specs.Ways.{Passed, Inside, OnWay, Walked, Leaves}
 use Rattle.marking.proofs.Filling.{symbol_at}
 use Rattle.marking.proofs.Lines.{steps_then, steps_as}
 use Rattle.marking.proofs.Walking.{read_in}

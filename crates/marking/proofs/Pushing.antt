@@ -1,12 +1,12 @@
 -- The nodes of the rows, one row after the other.
-use Rattle.std.proofs.Common.{◌≡◌, ℕ, zero, suc, ◌+◌, ◌<◌, ◌≤◌, true, ◌⊎◌, List, [], ◌∷◌, ◌++◌, length, get_or, take, drop, set, sym, refl, ap, ◌∙◌, subst, inl, inr, arith}
+use Rattle.std.proofs.Common.{◌≡◌, ℕ, zero, suc, ◌+◌, ◌<◌, ◌≤◌, ◌⊎◌, List, [], ◌∷◌, ◌++◌, length, get_or, take, drop, set, ap, ◌∙◌, subst, inl, inr, arith}
 use Rattle.std.proofs.lemmas.List.{take_more, take-take, take-append-drop, get_or-set_same, get_or-set_other}
 use Rattle.std.proofs.lemmas.Bool.{cases_lt}
 use Rattle.machine.specs.declared.row.Row.{Row}
 use Rattle.machine.specs.Rows.{zero_row, pushes}
 use Rattle.machine.specs.Lists.{Lists}
 use Rattle.marking.specs.Marks.{row_at, pushed}
-use Rattle.marking.specs.Drawing.{next_of, WordDrawn, Below, DrewWord, base_of, DrewRows}
+use Rattle.marking.specs.Drawing.{next_of, WordDrawn, DrewWord, base_of, DrewRows}
 
 pushed-append : (rs ss : List Row) → pushed (rs ++ ss) ≡ pushed rs + pushed ss
 pushed-append [] ss = omega arith

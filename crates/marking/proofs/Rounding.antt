@@ -1,13 +1,10 @@
 -- A row more of a round.
-use Rattle.std.proofs.Common.{◌≡◌, ℕ, zero, suc, ◌+◌, ◌<◌, ◌≤◌, Bool, true, false, ◌||◌, ◌⊎◌, List, [], ◌∷◌, length, get_or, take, sym, refl, ap, ◌∙◌, subst, inl, inr, ⊎_elim, arith}
-use mathlib.Core.Option.{Option, some}
-use lib.ListN.{get_elem?}
+use Rattle.std.proofs.Common.{◌≡◌, ℕ, zero, suc, ◌+◌, ◌<◌, Bool, true, false, ◌||◌, List, [], ◌∷◌, length, get_or, sym, refl, ap, ◌∙◌, subst, inl, inr, arith}
 use Rattle.std.proofs.lemmas.List.{take_all}
 use Rattle.std.proofs.lemmas.Bool.{cases_lt, cases_Bool, or_parts, and_parts, false≢true}
 use Rattle.machine.specs.declared.row.Row.{Row}
 use Rattle.machine.specs.Rows.{zero_row, pops}
 use Rattle.machine.specs.Lists.{Lists, all}
-use Rattle.machine.specs.Runs.{Reach}
 use Rattle.theory.specs.Graph.{Graph, Trail, Lean, At, Lawful}
 use Rattle.theory.proofs.Steps.{goes}
 use Rattle.theory.proofs.Useful.{own_closed}

@@ -1,13 +1,13 @@
 -- How many nodes and words a machine within the limits takes.
-use Rattle.std.proofs.Common.{◌≡◌, ℕ, zero, suc, ◌+◌, ◌*◌, ◌<◌, ◌≤◌, max, Bool, true, ◌&&◌, ltb, List, [], ◌∷◌, ◌++◌, length, get_or, take, sym, refl, ap, ◌∙◌, subst, mul_assoc, add-mul, mul-add, arith}
+use Rattle.std.proofs.Common.{◌≡◌, ℕ, ◌+◌, ◌*◌, ◌<◌, ◌≤◌, max, true, List, [], ◌∷◌, ◌++◌, length, ap, ◌∙◌, mul_assoc, add-mul, mul-add, arith}
 use mathlib.Core.List.Memᴰ
 use mathlib.Core.List.{Memᴰ}
 use Rattle.std.proofs.lemmas.Bool.{and_parts, ltb-true}
 use Rattle.machine.specs.declared.row.Row.{Row}
-use Rattle.machine.specs.Rows.{is_byte, lawful_row, lawful_word, zero_row, pushes}
-use Rattle.machine.specs.Lists.{Lists, Few, Limits, all, ends, above, width_of}
+use Rattle.machine.specs.Rows.{is_byte, lawful_row}
+use Rattle.machine.specs.Lists.{Lists, Limits, all, ends, above, width_of}
 use Rattle.theory.specs.Layout.{Fits}
-use Rattle.marking.specs.Marks.{row_at, pushed, words_for}
+use Rattle.marking.specs.Marks.{pushed, words_for}
 use Rattle.marking.proofs.Words.{both}
 
 -- every element is below what is above all

@@ -1,5 +1,5 @@
 -- The parts of the scratch, one after the other.
-use Rattle.std.proofs.Common.{◌≡◌, ℕ, ◌+◌, ◌*◌, ◌≤◌, length, ap, ◌∙◌, arith}
+use Rattle.std.proofs.Common.{◌≡◌, ℕ, ◌+◌, ◌*◌, ◌≤◌, length, ap, arith}
 use Rattle.machine.specs.Lists.{Lists, width_of}
 use Rattle.marking.specs.Marks.{pushed, node_count, words_for, scratch_need}
 use Rattle.marking.proofs.Sizes.{parts_fit}

@@ -1,8 +1,8 @@
 -- The nodes of a word, one symbol after the other.
-use Rattle.std.proofs.Common.{◌≡◌, ℕ, zero, suc, ◌+◌, ◌<◌, ◌≤◌, ◌⊎◌, List, [], ◌∷◌, length, get_or, set, sym, refl, ap, ◌∙◌, subst, inl, inr, arith}
+use Rattle.std.proofs.Common.{◌≡◌, ℕ, suc, ◌+◌, ◌<◌, ◌≤◌, ◌⊎◌, List, length, get_or, set, sym, refl, ap, ◌∙◌, inl, inr, arith}
 use Rattle.std.proofs.lemmas.List.{get_or-set_same, get_or-set_other}
 use Rattle.std.proofs.lemmas.Bool.{cases_lt}
-use Rattle.marking.specs.Drawing.{next_of, WordDrawn, Below, DrewWord}
+use Rattle.marking.specs.Drawing.{next_of, Below, DrewWord}
 
 pub drew_none : (word : List ℕ) (base prev : ℕ) (labels nexts : List ℕ) → DrewWord word base prev labels nexts labels nexts 0 prev
 drew_none word base prev labels nexts =

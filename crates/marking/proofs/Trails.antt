@@ -1,11 +1,11 @@
 -- A level is where a lean trail that reads the word begins.
-use Rattle.std.proofs.Common.{◌≡◌, ℕ, zero, suc, ◌+◌, ◌<◌, ◌≤◌, Bool, true, false, T, List, [], ◌∷◌, ◌++◌, length, take, sym, refl, ap, ◌∙◌, subst, inl, inr, append_assoc, append-nil, arith, length-append}
-use mathlib.Core.Option.{Option, some}
+use Rattle.std.proofs.Common.{◌≡◌, ℕ, zero, suc, Bool, true, false, T, List, [], ◌∷◌, ◌++◌, length, take, sym, refl, ap, ◌∙◌, subst, inl, inr, append_assoc, append-nil, arith, length-append}
+use mathlib.Core.Option.{some}
 use lib.ListN.{get_elem?}
 use Rattle.theory.specs.Graph.{Graph, Trail, here, edge, down, Within, Lean}
 use Rattle.theory.specs.Levels.{Reads}
 use Rattle.marking.specs.Nodes.{Level, none, again}
-use Rattle.marking.specs.Ways.{Passed, begin, step, Inside, Last, OnWay}
+use Rattle.marking.specs.Ways.{Passed, begin, step, OnWay}
 
 take_one : (word : List ℕ) (j a : ℕ) → get_elem? word j ≡ some a → take j word ++ (a ∷ []) ≡ take (suc j) word
 take_one [] j a e = absurd (let z : ◌≡◌ {A = ℕ} 0 1 = cc in omega arith)

@@ -1,5 +1,5 @@
 -- The nodes of the words that rows push, as they are written down row by row.
-use Rattle.std.specs.Prelude.{◌≡◌, ℕ, zero, suc, ◌+◌, ◌<◌, ◌≤◌, List, [], ◌∷◌, length, take, slice_index}
+use Rattle.std.specs.Prelude.{◌≡◌, ℕ, zero, suc, ◌+◌, ◌<◌, ◌≤◌, List, length, take, slice_index}
 use Rattle.machine.specs.Rows.{pushes}
 use Rattle.machine.specs.Lists.{Lists}
 use Rattle.marking.specs.Marks.{row_at, pushed}

@@ -1,5 +1,5 @@
 -- The nodes of a machine's graph as they lie in words, and the levels of a word.
-use Rattle.std.specs.Prelude.{◌≡◌, ℕ, suc, ◌<◌, ◌≤◌, T, ◌↔◌, List, length, slice_index, slice_index_or}
+use Rattle.std.specs.Prelude.{◌≡◌, ℕ, suc, ◌<◌, ◌≤◌, T, List, length, slice_index, slice_index_or}
 use Rattle.theory.specs.Graph.{Graph}
 use Rattle.theory.specs.Levels.{Reads}
 use Rattle.marking.specs.Relations.{On, Holds}

@@ -1,7 +1,7 @@
 -- What a reader that takes memory may answer.
 use Rattle.std.specs.Prelude.{ℕ, Ok, Err, vec_items, Result}
 use Rattle.machine.specs.Lists.{Lists}
-use Rattle.texts.specs.declared.entries.Entries.{Entries}
+use Rattle.texts.specs.declared.lists.Entries.{Entries}
 use Rattle.texts.specs.declared.unread.Unread.{Unread}
 use Rattle.texts.specs.declared.unread.Unread.TheVariants.{Memory, Line}
 

@@ -1,8 +1,8 @@
 //! Reads back the text of a machine. A reader takes the text to what stands in front and the rest of it.
 #![tactic(auto)]
 
-pub mod entries;
 mod found;
+pub mod lists;
 mod literals;
 mod numbers;
 pub mod reading;

@@ -4,7 +4,7 @@ ghost use Rattle.texts.specs.Reading.{next_line, read_lists, read_machine};
 ghost use Rattle.texts.specs.Outcomes.{Told, lists_of};
 ghost use Rattle.texts.specs.Laws.{ReadsBack};
 
-use crate::entries::Entries;
+use crate::lists::Entries;
 use crate::literals::past;
 use crate::rows::rows;
 use crate::states::states;

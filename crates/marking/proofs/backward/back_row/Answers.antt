@@ -1,4 +1,4 @@
-use Rattle.std.proofs.Common.{◌≡◌, ℕ, sym, ◌∙◌, subst, arith}
+use Rattle.std.proofs.Common.{◌≡◌, sym, ◌∙◌, subst, arith}
 use Rattle.machine.specs.Rows.{pops}
 use Rattle.marking.specs.Relations.{Holds, Steps}
 use Rattle.marking.specs.Nodes.{Filled}

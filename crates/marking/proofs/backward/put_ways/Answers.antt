@@ -1,4 +1,4 @@
-use Rattle.std.proofs.Common.{◌≡◌, ◌+◌, length, sym, ◌∙◌, subst, arith, length-take}
+use Rattle.std.proofs.Common.{◌≡◌, subst, arith, length-take}
 use Rattle.marking.specs.Relations.{Steps}
 use Rattle.marking.proofs.Cells.{line_end}
 use Rattle.marking.proofs.Lines.{steps_none, touches_none, touches_then}

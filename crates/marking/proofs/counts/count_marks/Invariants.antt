@@ -1,4 +1,4 @@
-use Rattle.std.proofs.Common.{◌≡◌, ◌≤◌, eqb, ltb, take}
+use Rattle.std.proofs.Common.{◌≡◌, eqb, ltb, take}
 use Rattle.marking.specs.Marks.{count_if}
 use Rattle.marking.proofs.counts.count_marks.Given as goal
 

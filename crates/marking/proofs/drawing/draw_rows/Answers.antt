@@ -1,10 +1,10 @@
-use Rattle.std.proofs.Common.{◌≡◌, ℕ, ◌+◌, ◌<◌, ◌≤◌, true, length, get_or, sym, refl, ap, ◌∙◌, subst, arith}
+use Rattle.std.proofs.Common.{◌≡◌, ◌+◌, ◌<◌, ◌≤◌, true, length, sym, refl, ap, ◌∙◌, subst, arith}
 use Rattle.machine.specs.declared.row.Row.{Row}
-use Rattle.machine.specs.Rows.{zero_row, lawful_row, pushes, symbols_of}
+use Rattle.machine.specs.Rows.{zero_row, lawful_row, pushes}
 use Rattle.marking.specs.Marks.{row_at, pushed}
 use Rattle.marking.specs.Drawing.{DrewRows}
 use Rattle.marking.proofs.Rounding.{all_at}
-use Rattle.marking.proofs.Words.{Whole, both}
+use Rattle.marking.proofs.Words.{both}
 use Rattle.marking.proofs.Pushing.{drew_no_row, drew_row, base_in, reach_in, as_row, next_small}
 use Rattle.marking.proofs.drawing.draw_rows.Goals as goal
 

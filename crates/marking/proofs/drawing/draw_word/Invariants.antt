@@ -1,4 +1,3 @@
-use Rattle.std.proofs.Common.{◌<◌}
 use Rattle.machine.specs.Rows.{symbols_of}
 use Rattle.marking.specs.Drawing.{DrewWord}
 use Rattle.marking.proofs.drawing.draw_word.Given as goal

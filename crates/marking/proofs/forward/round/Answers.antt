@@ -1,7 +1,6 @@
-use Rattle.std.proofs.Common.{◌≡◌, ℕ, ◌<◌, true, length, get_or, sym, ap, ◌∙◌, subst, arith}
+use Rattle.std.proofs.Common.{◌≡◌, ◌<◌, length, ap, ◌∙◌, subst, arith}
 use Rattle.machine.specs.declared.row.Row.{Row}
 use Rattle.machine.specs.Rows.{zero_row, lawful_row, pops}
-use Rattle.theory.specs.Graph.{Graph}
 use Rattle.marking.specs.Relations.{Adds}
 use Rattle.marking.specs.Nodes.{Follows}
 use Rattle.marking.specs.Rounds.{Round}

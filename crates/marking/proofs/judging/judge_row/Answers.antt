@@ -1,6 +1,5 @@
 use Rattle.marking.proofs.judging.judge_row.Goals as goal
-use Rattle.std.proofs.Common.{◌≡◌, ℕ, ◌<◌, length, sym, refl, ◌∙◌, subst, inl, inr, arith}
-use Rattle.std.proofs.lemmas.Bool.{false≢true}
+use Rattle.std.proofs.Common.{◌≡◌, ℕ, ◌<◌, length, sym, ◌∙◌, subst, arith}
 use Rattle.machine.specs.Rows.{pops}
 use Rattle.machine.specs.declared.row.Row.{Row}
 use Rattle.marking.specs.Relations.{Holds}

@@ -1,8 +1,7 @@
-use Rattle.std.proofs.Common.{◌≡◌, ℕ, ◌<◌, length, get_or, drop, sym, ap, ◌∙◌, subst, arith}
+use Rattle.std.proofs.Common.{◌<◌, length, get_or, ap, ◌∙◌, subst, arith}
 use Rattle.machine.specs.declared.row.Row.{Row}
 use Rattle.machine.specs.Rows.{zero_row, lawful_row}
-use Rattle.marking.specs.Marks.{row_at}
-use Rattle.marking.specs.Solving.{Found, FoundAll}
+use Rattle.marking.specs.Solving.{Found}
 use Rattle.marking.proofs.Rounding.{all_at}
 use Rattle.marking.proofs.Judged.{rest_more, found_more}
 use Rattle.marking.proofs.judging.judge_rows.Goals as goal

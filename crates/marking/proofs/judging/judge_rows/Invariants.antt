@@ -1,4 +1,4 @@
-use Rattle.std.proofs.Common.{◌≡◌, ◌≤◌, drop}
+use Rattle.std.proofs.Common.{◌≡◌, drop}
 use Rattle.theory.specs.Graph.{Graph}
 use Rattle.marking.specs.Nodes.{Drawn}
 use Rattle.marking.specs.Solving.{FoundAll}

@@ -1,4 +1,4 @@
-use Rattle.std.proofs.Common.{◌≡◌, ◌-◌, length, take, sym, ap, ◌∙◌, subst, arith}
+use Rattle.std.proofs.Common.{◌≡◌, ◌-◌, length, take, ap, ◌∙◌, arith}
 use Rattle.theory.specs.Layout.{graph_of}
 use Rattle.marking.specs.Marks.{counts_of}
 use Rattle.marking.proofs.Judged.{marked}

@@ -1,4 +1,4 @@
-use Rattle.std.proofs.Common.{◌≡◌, ℕ, ◌+◌, ◌*◌, ◌<◌, ◌≤◌, length, sym, ap, ◌∙◌, subst, arith}
+use Rattle.std.proofs.Common.{◌≡◌, ℕ, length, sym, subst, arith}
 use Rattle.theory.specs.Layout.{Fits}
 use Rattle.marking.specs.Drawing.{DrewRows}
 use Rattle.marking.proofs.Drafts.{size, draws}

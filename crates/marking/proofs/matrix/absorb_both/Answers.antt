@@ -1,4 +1,4 @@
-use Rattle.std.proofs.Common.{sym, refl, inl, arith}
+use Rattle.std.proofs.Common.{refl, arith}
 use Rattle.std.proofs.lemmas.Bool.{false≢true, true≢false}
 use Rattle.marking.proofs.Lines.{both_there, fewer_both, touches_none, touches_line}
 use Rattle.marking.proofs.matrix.absorb_both.Goals as goal

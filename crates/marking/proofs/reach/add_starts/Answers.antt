@@ -1,4 +1,4 @@
-use Rattle.std.proofs.Common.{◌≡◌, ◌<◌, length, get_or, ap, ◌∙◌, subst, arith}
+use Rattle.std.proofs.Common.{◌≡◌, ◌<◌, length, get_or, ◌∙◌, subst, arith}
 use Rattle.marking.specs.Relations.{Gains, Holds}
 use Rattle.marking.specs.Reach.{AfterOne}
 use Rattle.marking.proofs.Sinking.{after_none, after_more}

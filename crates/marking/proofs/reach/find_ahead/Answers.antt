@@ -1,4 +1,3 @@
-use Rattle.std.proofs.Common.{arith}
 use Rattle.marking.proofs.Sinking.{starts_up, sunk_none, sunk_more, is_ahead}
 use Rattle.marking.proofs.reach.find_ahead.Goals as goal
 

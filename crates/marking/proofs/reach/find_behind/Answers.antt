@@ -1,4 +1,3 @@
-use Rattle.std.proofs.Common.{arith}
 use Rattle.marking.proofs.Reaching.{accepts_down, risen_none, risen_more, is_behind}
 use Rattle.marking.proofs.reach.find_behind.Goals as goal
 

@@ -1,4 +1,4 @@
-use Rattle.std.proofs.Common.{ℕ, take, drop, arith}
+use Rattle.std.proofs.Common.{arith}
 use Rattle.std.proofs.lemmas.List.{length-take, length-drop}
 use Rattle.marking.proofs.Cells.{is_line}
 use Rattle.marking.proofs.sets.line.Goals as goal

@@ -1,4 +1,4 @@
-use Rattle.std.proofs.Common.{◌≡◌, ℕ, ◌<◌}
+use Rattle.std.proofs.Common.{ℕ, ◌<◌}
 use Rattle.marking.specs.Relations.{Member, Share}
 use Rattle.marking.proofs.sets.share.Given as goal
 

@@ -1,4 +1,4 @@
-use Rattle.std.proofs.Common.{◌≡◌, length, get_or, sym, refl, ◌∙◌, arith}
+use Rattle.std.proofs.Common.{◌≡◌, get_or, refl, ◌∙◌, arith}
 use Rattle.marking.proofs.Flagging.{flags_none, flags_more, flags_skip, flags_all}
 use Rattle.marking.proofs.useful.flag_starts.Goals as goal
 use Rattle.marking.proofs.useful.flag_starts.Goals.{then-set-state-ne0, else-set-state-ne0}
