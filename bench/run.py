@@ -1,7 +1,7 @@
 #!/usr/bin/env python3
 """Measures a marking program against a native peer, and prints a table in Markdown.
 
-    python3 bench/run.py                     target/bin/markings against bench/published.rs
+    python3 bench/run.py                     crates/markings/out/markings against bench/published.rs
     python3 bench/run.py --ours PROGRAM      another program against it
     python3 bench/run.py --quick             small inputs, few runs
 
@@ -289,7 +289,7 @@ def print_table(ours, folder, arguments):
 
 def parsed_arguments():
     parser = argparse.ArgumentParser(description=__doc__, formatter_class=argparse.RawDescriptionHelpFormatter)
-    parser.add_argument("--ours", default="target/bin/markings", help="the program to be measured")
+    parser.add_argument("--ours", default="crates/markings/out/markings", help="the program to be measured")
     parser.add_argument("--peer-twice", action="store_true", help="measure the peer against itself")
     parser.add_argument("--quick", action="store_true", help="small inputs, few runs")
     return parser.parse_args()
