@@ -1,4 +1,4 @@
--- Total orders: of numbers, of lists by their first difference, and by one part after another.
+-- Total orders: of numbers, of lists by their first difference, and by one part after another. No definition to believe, only proofs.
 use Rattle.std.specs.Prelude.{◌≡◌, ℕ, List, [], ◌∷◌, ◌++◌, length, refl}
 use Rattle.std.specs.declared.cmp.Ordering.TheVariants.{Less, Equal, Greater}
 use Rattle.std.specs.declared.cmp.Ordering.{Ordering}

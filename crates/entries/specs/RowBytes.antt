@@ -1,4 +1,4 @@
--- The bytes of a row, and the order of rows.
+-- The bytes of a row, and the order of rows. No definition to believe, only proofs.
 use Rattle.std.specs.Prelude.{◌≡◌, ℕ, ◌+◌, ◌≤◌, true, List, [], ◌∷◌, ◌++◌, length, take, drop, ◌==◌, slice_index, refl}
 use Rattle.std.specs.declared.cmp.Ordering.{Ordering}
 use Rattle.std.proofs.Common.{sym, ap, ap₂, ◌∙◌, append_assoc, arith, length-append, length-take}

@@ -1,4 +1,4 @@
--- The laws of states as entries.
+-- The laws of states as entries. No definition to believe, only proofs.
 use Rattle.std.specs.Prelude.{◌≡◌, ℕ, ◌≤◌, List, [], ◌∷◌, length, take, slice_index, refl}
 use Rattle.std.proofs.Common.{arith}
 use Rattle.entries.specs.Sorts.{Laws}
