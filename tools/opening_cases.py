@@ -36,6 +36,8 @@ either end of a row, and 0 where it names none.
 import collections
 import pathlib
 
+from random_machines import Dice
+
 WORD = 10
 ROW = 5 + 2 * WORD
 MOST = (256, 256, 1024)
@@ -168,23 +170,6 @@ class Cases:
 
     def add_rows(self, rows, expected):
         self.add(table(rows=rows), expected)
-
-
-class Dice:
-    """Numbers that look random and are the same on every machine."""
-
-    def __init__(self, seed):
-        self.state = seed
-
-    def below(self, limit):
-        self.state = (self.state * 6364136223846793005 + 1442695040888963407) % 2 ** 64
-        return (self.state >> 33) % limit
-
-    def pick(self, choices):
-        return choices[self.below(len(choices))]
-
-    def bytes(self, length, low, high):
-        return [low + self.below(high - low + 1) for _ in range(length)]
 
 
 # ---- the cases -------------------------------------------------------------------------------------------------

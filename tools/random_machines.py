@@ -30,6 +30,9 @@ class Dice:
     def between(self, low, high):
         return low + self.below(high - low + 1)
 
+    def bytes(self, length, low, high):
+        return [self.between(low, high) for _ in range(length)]
+
     def some(self, choices, count):
         """As many different ones of the choices, or all of them."""
         left, taken = list(choices), []

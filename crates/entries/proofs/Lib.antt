@@ -1,3 +1,4 @@
+pub mod Below
 pub mod Sections
 pub mod Prefixes
 pub mod Files

@@ -1,6 +1,5 @@
 -- Reading a section, entry by entry.
-use Rattle.std.proofs.Common.{◌≡◌, ℕ, zero, suc, ◌+◌, ◌-◌, ◌*◌, ◌/◌, ◌%◌, ◌<◌, ◌≤◌, Bool, true, false, cond, ◌&&◌, ltb, List, [], ◌∷◌, ◌++◌, length, get_or, take, drop, Some, None, Ok, Err, Option, Result, Ordering, Less, Equal, Greater, unwrap_or, sym, refl, ap, ◌∙◌, subst, append_assoc, mul-zero, mul-suc, arith, length-append}
-use Rattle.std.specs.Ordering.{is_lt}
+use Rattle.std.proofs.Common.{◌≡◌, ℕ, zero, suc, ◌+◌, ◌-◌, ◌*◌, ◌/◌, ◌%◌, ◌<◌, ◌≤◌, Bool, true, false, cond, ◌&&◌, ltb, List, [], ◌∷◌, ◌++◌, length, get_or, take, drop, Some, None, Ok, Err, Option, Result, unwrap_or, sym, refl, ap, ◌∙◌, subst, append_assoc, mul-zero, mul-suc, arith, length-append}
 use Rattle.std.proofs.lemmas.List.{take_rest, take-append-drop, drop_at, drop-drop, length-drop}
 use Rattle.std.proofs.lemmas.Bool.{ltb-true, ltb-false, lt-ltb, le-ltb, and_parts}
 use Rattle.machine.specs.declared.fault.Fault.{Fault}
@@ -10,11 +9,7 @@ use Rattle.machine.specs.Lists.{all}
 use Rattle.machine.specs.Rows.{is_byte}
 use Rattle.entries.specs.Sorts.{Sort, Laws, entry_at}
 use Rattle.entries.specs.Sections.{and_then, read_entry, follows, read_entries, entries, BelowAll, Ascending, joined, count_of, count_bytes, read_count, read_section, holding, section_bytes, Lawful, Read}
-
-is_less : (o : Ordering) → is_lt o ≡ true → o ≡ Less
-is_less Less h = refl
-is_less Equal h = absurd (let z : ◌≡◌ {A = ℕ} 0 1 = cc in omega arith)
-is_less Greater h = absurd (let z : ◌≡◌ {A = ℕ} 0 1 = cc in omega arith)
+use Rattle.entries.proofs.Below.{lift}
 
 module _ {X : Type 0} (e : Sort X) (s : ℕ) where
   -- what is left to do after the entry at a place
@@ -63,16 +58,9 @@ module _ {X : Type 0} (e : Sort X) (laws : Laws e) (s : ℕ) where
   Above None xs = Unit {0}
   Above (Some x) xs = BelowAll e x xs
 
-  less : (x y z : X) → is_lt (e.rank x y) ≡ true → is_lt (e.rank y z) ≡ true → is_lt (e.rank x z) ≡ true
-  less x y z h k = ap is_lt (laws.through x y z (is_less _ h) (is_less _ k))
-
-  lift : (x y : X) → is_lt (e.rank x y) ≡ true → (zs : List X) → BelowAll e y zs → BelowAll e x zs
-  lift x y h [] a = tt
-  lift x y h (z ∷ zs) a = (less x y z h a.0, lift x y h zs a.1)
-
   onto : (before : Option X) (y : X) (ys : List X) → follows e before y ≡ true → BelowAll e y ys → Above before (y ∷ ys)
   onto None y ys h a = tt
-  onto (Some x) y ys h a = (h, lift x y h ys a)
+  onto (Some x) y ys h a = (h, lift e laws x y h ys a)
 
   pub record Taken (before : Option X) (n : ℕ) (bs rest : List ℕ) : Type 0 where
     pub above : Above before (entries e n bs)

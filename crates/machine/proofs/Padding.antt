@@ -1,6 +1,6 @@
 -- A word's bytes, looked at one by one.
-use Rattle.std.proofs.Common.{◌≡◌, ℕ, zero, suc, ◌+◌, ◌-◌, ◌<◌, ◌≤◌, ◌&&◌, eqb, List, [], ◌∷◌, length, get_or, drop, sym, refl, ap, ◌∙◌, arith}
-use Rattle.std.proofs.lemmas.Bool.{ne_eqb}
+use Rattle.std.proofs.Common.{◌≡◌, ℕ, zero, suc, ◌+◌, ◌-◌, ◌<◌, ◌≤◌, true, ◌&&◌, eqb, List, [], ◌∷◌, length, get_or, drop, sym, refl, ap, ◌∙◌, arith}
+use Rattle.std.proofs.lemmas.Bool.{and_parts, ne_eqb}
 use Rattle.std.proofs.lemmas.List.{at_drop_more, at_drop_all}
 use Rattle.machine.specs.Rows.{is_symbol, padded}
 
@@ -21,3 +21,9 @@ module _ (xs : List ℕ) (i : ℕ) (h : i < length xs) where
 
 pub at_end : (xs : List ℕ) (i n : ℕ) → length xs ≤ i → padded n (drop i xs) ≡ eqb n 0
 at_end xs i n h = at_drop_all (padded n) xs i h ∙ none n
+
+-- a padded word has as many bytes as it says
+pub padded_fits : (n : ℕ) (bs : List ℕ) → padded n bs ≡ true → n ≤ length bs
+padded_fits zero bs p = omega arith
+padded_fits (suc n) [] p = absurd (let z : ◌≡◌ {A = ℕ} 0 1 = cc in omega arith)
+padded_fits (suc n) (b ∷ bs) p = omega (arith, padded_fits n bs (and_parts (is_symbol b) (padded n bs) p).1)

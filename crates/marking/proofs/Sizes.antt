@@ -1,11 +1,12 @@
 -- How many nodes and words a machine within the limits takes.
-use Rattle.std.proofs.Common.{◌≡◌, ℕ, ◌+◌, ◌*◌, ◌<◌, ◌≤◌, max, true, List, [], ◌∷◌, ◌++◌, length, ap, ◌∙◌, mul_assoc, add-mul, mul-add, arith}
+use Rattle.std.proofs.Common.{◌≡◌, ℕ, ◌+◌, ◌*◌, ◌<◌, ◌≤◌, true, List, [], ◌∷◌, ◌++◌, length, ap, ◌∙◌, mul_assoc, add-mul, mul-add, arith}
 use mathlib.Core.List.Memᴰ
 use mathlib.Core.List.{Memᴰ}
 use Rattle.std.proofs.lemmas.Bool.{and_parts, ltb-true}
 use Rattle.machine.specs.declared.row.Row.{Row}
 use Rattle.machine.specs.Rows.{is_byte, lawful_row}
 use Rattle.machine.specs.Lists.{Lists, Limits, all, ends, above, width_of}
+use Rattle.machine.proofs.Largest.{above-append}
 use Rattle.theory.specs.Layout.{Fits}
 use Rattle.marking.specs.Marks.{pushed, words_for}
 use Rattle.marking.proofs.Words.{both}
@@ -30,10 +31,6 @@ fits m = record {
   from = λ r h. below_above (Memᴰ.append_right m.starts (Memᴰ.append_right m.accepts (from_end h)));
   to = λ r h. below_above (Memᴰ.append_right m.starts (Memᴰ.append_right m.accepts (to_end h)));
 }
-
-above-append : (xs ys : List ℕ) → above (xs ++ ys) ≡ max (above xs) (above ys)
-above-append [] ys = omega arith
-above-append (x ∷ xs) ys = let e = above-append xs ys in omega arith
 
 bytes_above : (ss : List ℕ) → all is_byte ss ≡ true → above ss ≤ 256
 bytes_above [] h = omega arith

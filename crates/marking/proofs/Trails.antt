@@ -1,9 +1,10 @@
 -- A level is where a lean trail that reads the word begins.
-use Rattle.std.proofs.Common.{◌≡◌, ℕ, zero, suc, Bool, true, false, T, List, [], ◌∷◌, ◌++◌, length, take, sym, refl, ap, ◌∙◌, subst, inl, inr, append_assoc, append-nil, arith, length-append}
+use Rattle.std.proofs.Common.{◌≡◌, ℕ, zero, suc, Bool, true, false, T, List, [], ◌∷◌, ◌++◌, length, take, sym, refl, ap, ◌∙◌, subst, inl, inr, append_assoc, append-nil, arith}
 use mathlib.Core.Option.{some}
 use lib.ListN.{get_elem?}
 use Rattle.theory.specs.Graph.{Graph, Trail, here, edge, down, Within, Lean}
 use Rattle.theory.specs.Levels.{Reads}
+use Rattle.theory.proofs.Reading.{one_more, reads, before}
 use Rattle.marking.specs.Nodes.{Level, none, again}
 use Rattle.marking.specs.Ways.{Passed, begin, step, OnWay}
 
@@ -12,26 +13,12 @@ take_one [] j a e = absurd (let z : ◌≡◌ {A = ℕ} 0 1 = cc in omega arith)
 take_one (w ∷ ws) zero a e = let f : w ≡ a = cc in ap (λ x. x ∷ []) (sym f)
 take_one (w ∷ ws) (suc j) a e = ap (λ xs. w ∷ xs) (take_one ws j a e)
 
-between : (u w : List ℕ) (a : ℕ) → get_elem? (u ++ (a ∷ w)) (length u) ≡ some a
-between [] w a = refl
-between (x ∷ u) w a = between u w a
-
-one_more : (u : List ℕ) (a : ℕ) → length (u ++ (a ∷ [])) ≡ suc (length u)
-one_more u a = let e = length-append u (a ∷ []) in omega (arith, e)
-
 module _ (g : Graph) (E : ℕ → ℕ → Type 0) where
-  -- an edge to z and the next-edge before a lean trail make a lean trail
-  before : (x z : ℕ) → T (g.inner z) → E x z → {v : List ℕ} {y : ℕ} (π : Trail g E (g.next z) v y) (b : Bool) → Lean π b → (τ : Trail g E x (v ++ (g.label z ∷ [])) y) × Lean τ b
-  before x z i k here b h = (down (edge here k) i refl, tt)
-  before x z i k (edge p j) true h = let r = before x z i k p false h in (edge r.0 j, r.1)
-  before x z i k (edge p j) false h = absurd h
-  before x z i k (down p j d) b h = let r = before x z i k p true h in (down r.0 j (ap (λ t. t ++ (g.label z ∷ [])) d), r.1)
-
   pub level_trail : (word : List ℕ) (q : ℕ) {j x : ℕ} → Level g E word q j x → (π : Trail g E x (take j word) q) × Lean π true
   level_trail word q (none e) = (edge here e, tt)
   level_trail word q {x = x} (again {j} z r e l) =
       let p = level_trail word q l in
-      let t = before x z r.inner e p.0 true p.1 in
+      let t = before g E x z r.inner e p.0 true p.1 in
       subst (λ w. (π : Trail g E x w q) × Lean π true) (take_one word j (g.label z) r.label) t
 
   module _ (word : List ℕ) (q : ℕ) (loops : (z : ℕ) → T (g.inner z) → E z z) where
@@ -45,10 +32,6 @@ module _ (g : Graph) (E : ℕ → ℕ → Type 0) where
     ends n y true c = c.1 y c.0
     ends n y false c = c
 
-    reads : (u w v : List ℕ) (z : ℕ) → T (g.inner z) → v ≡ g.label z ∷ w → word ≡ u ++ v → Reads g word (length u) z
-    reads u w v z i d f =
-        record { inner = i; label = subst (λ t. get_elem? t (length u) ≡ some (g.label z)) (sym (f ∙ ap (λ t. u ++ t) d)) (between u w (g.label z)) }
-
     onward : (u : List ℕ) (z : ℕ) → Reads g word (length u) z → Level g E word q (length u) (g.next z) → Goes (length (u ++ (g.label z ∷ []))) z true
     onward u z r h = (loops z r.inner, λ v k. subst (λ n. Level g E word q n v) (sym (one_more u (g.label z))) (again z r k h))
 
@@ -57,7 +40,7 @@ module _ (g : Graph) (E : ℕ → ℕ → Type 0) where
     level_from (edge {y} p k) true h u f c = level_from p false h u f (c.1 y k)
     level_from (edge p k) false h u f c = absurd h
     level_from (down {w} {v} {y = z} p i d) b h u f c =
-        level_from p true h (u ++ (g.label z ∷ [])) (f ∙ ap (λ t. u ++ t) d ∙ sym (append_assoc u (g.label z ∷ []) w)) (onward u z (reads u w v z i d f) (ends (length u) (g.next z) b c))
+        level_from p true h (u ++ (g.label z ∷ [])) (f ∙ ap (λ t. u ++ t) d ∙ sym (append_assoc u (g.label z ∷ []) w)) (onward u z (reads g word u w v z i d f) (ends (length u) (g.next z) b c))
 
     -- Where C has each edge of the ways, it has each edge of a lean trail that begins one.
     module _ (C : ℕ → ℕ → Type 0) (top : ℕ) (put : (u v : ℕ) → OnWay g E C word q top u v → C u v) where
@@ -85,7 +68,7 @@ module _ (g : Graph) (E : ℕ → ℕ → Type 0) where
           ((r.0, k y r.1 j), (y, r.1, j))
       inside (edge p j) false h u f t o k = absurd h
       inside (down {w} {v} {y = z} p i d) b h u f t o k =
-          let a = reads u w v z i d f in
+          let a = reads g word u w v z i d f in
           let m = ends (length u) (g.next z) b o in
           let n = one_more u (g.label z) in
           let r = inside p true h (u ++ (g.label z ∷ [])) (f ∙ ap (λ t. u ++ t) d ∙ sym (append_assoc u (g.label z ∷ []) w)) t (onward u z a m)

@@ -1,14 +1,10 @@
 -- The words of a lawful row.
-use Rattle.std.proofs.Common.{◌≡◌, ℕ, zero, suc, ◌≤◌, true, eqb, List, [], ◌∷◌, length, arith, length-take}
+use Rattle.std.proofs.Common.{◌≡◌, ◌≤◌, true, eqb, length, arith, length-take}
 use Rattle.std.proofs.lemmas.Bool.{and_parts, eqb-true}
 use Rattle.machine.specs.declared.row.Word.{Word}
 use Rattle.machine.specs.declared.row.Row.{Row}
-use Rattle.machine.specs.Rows.{is_byte, is_symbol, padded, lawful_word, lawful_row, symbols_of}
-
-within : (n : ℕ) (bs : List ℕ) → padded n bs ≡ true → n ≤ length bs
-within zero bs h = omega arith
-within (suc n) [] h = absurd (let z : ◌≡◌ {A = ℕ} 0 1 = cc in omega arith)
-within (suc n) (b ∷ bs) h = let k = within n bs (and_parts (is_symbol b) (padded n bs) h).1 in omega arith
+use Rattle.machine.specs.Rows.{is_byte, padded, lawful_word, lawful_row, symbols_of}
+use Rattle.machine.proofs.Padding.{padded_fits}
 
 pub record Whole (w : Word) : Type 0 where
   pub ten : length w.symbols ≡ 10
@@ -19,7 +15,7 @@ pub whole : (w : Word) → lawful_word w ≡ true → Whole w
 whole w h =
     let p = and_parts (eqb (length w.symbols) 10) (padded w.len w.symbols) h in
     let e = eqb-true (length w.symbols) 10 p.0 in
-    let k = within w.len w.symbols p.1 in
+    let k = padded_fits w.len w.symbols p.1 in
     record { ten = e; few = omega arith; long = simp length-take (omega arith) }
 
 pub both : (r : Row) → lawful_row r ≡ true → Whole r.popped × Whole r.pushed

@@ -1,5 +1,5 @@
 -- One more than the largest state, found in one pass.
-use Rattle.std.proofs.Common.{◌≡◌, ℕ, ◌+◌, ◌<◌, ◌≤◌, max, List, [], ◌∷◌, ◌++◌, length, get_or, drop, ap, arith}
+use Rattle.std.proofs.Common.{◌≡◌, ℕ, ◌+◌, ◌<◌, ◌≤◌, max, List, length, get_or, drop, ap, arith}
 use Rattle.std.proofs.lemmas.List.{at_drop_more, at_drop_all}
 use Rattle.machine.specs.declared.row.Row.{Row}
 use Rattle.machine.specs.Lists.{above, ends}
@@ -20,7 +20,3 @@ rows_step rs d i a t r e h k =
 
 pub rows_finish : (rs : List Row) (i a t : ℕ) → length rs ≤ i → max a (above (ends (drop i rs))) ≡ t → a ≡ t
 rows_finish rs i a t h k = let e = at_drop_all (λ xs. above (ends xs)) rs i h in omega arith
-
-pub above-append : (xs ys : List ℕ) → above (xs ++ ys) ≡ max (above xs) (above ys)
-above-append [] ys = omega arith
-above-append (x ∷ xs) ys = let e = above-append xs ys in omega arith

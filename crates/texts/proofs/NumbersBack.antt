@@ -4,6 +4,7 @@ use Rattle.std.proofs.lemmas.Bool.{and_parts, and_from, leb-true, ltb-true, eqb-
 use Rattle.machine.specs.declared.row.Word.{Word}
 use Rattle.machine.specs.Rows.{is_byte, is_symbol, padded, lawful_word, symbols_of}
 use Rattle.machine.specs.Lists.{all}
+use Rattle.machine.proofs.Padding.{padded_fits}
 use Rattle.reports.specs.Texts.{spaced, numbers_text}
 use Rattle.texts.specs.Reading.{read, either, ended, digit_first, read_byte, read_spaced, put_front, read_some, read_numbers, after, word_of, read_word, read_states}
 use Rattle.texts.proofs.Fronts.{there}
@@ -87,11 +88,6 @@ stands (suc n) k (b ∷ bs) p l =
       bytes = and_from (is_byte b) (all is_byte (take n bs)) (and_parts (ltb 0 b) (is_byte b) h.0).1 s.bytes;
       whole = ap (λ cs. b ∷ cs) s.whole;
     }
-
-padded_fits : (n : ℕ) (bs : List ℕ) → padded n bs ≡ true → n ≤ length bs
-padded_fits zero bs p = omega arith
-padded_fits (suc n) [] p = absurd (let z : ◌≡◌ {A = ℕ} 0 1 = cc in omega arith)
-padded_fits (suc n) (b ∷ bs) p = omega (arith, padded_fits n bs (and_parts (is_symbol b) (padded n bs) p).1)
 
 pub word_back : (w : Word) (rest : List ℕ) → lawful_word w ≡ true → Ends rest → read_word (numbers_text (symbols_of w) ++ rest) ≡ Some (read w rest)
 word_back w rest h e =

@@ -1,28 +1,16 @@
 -- The levels have every lean trail that reads the word, and every edge on one.
 use mathlib.Core.Path.{◌≡◌, refl, sym, ◌∙◌, ap, subst}
 use mathlib.Core.Bool.{Bool, true, false}
-use mathlib.Core.Option.{some}
 use mathlib.Core.List.{List, [], ◌∷◌, ◌++◌, append_assoc, append-nil}
-use Prim.Native.Nat.{ℕ, suc}
-use native.Mathlib.Omega.{arith}
+use Prim.Native.Nat.{ℕ}
 use lib.Dec.{T}
-use lib.ListN.{length, get_elem?, length-append}
+use lib.ListN.{length}
 use Rattle.theory.specs.Graph.{Graph, Trail, here, edge, down, Within, Lean}
 use Rattle.theory.specs.Theorems.{Table, Holds}
 use Rattle.theory.specs.Levels.{Reads, Levels, Sweep, Leveling}
-
-between : (u w : List ℕ) (a : ℕ) → get_elem? (u ++ (a ∷ w)) (length u) ≡ some a
-between [] w a = refl
-between (x ∷ u) w a = between u w a
-
-one_more : (u : List ℕ) (a : ℕ) → length (u ++ (a ∷ [])) ≡ suc (length u)
-one_more u a = let e = length-append u (a ∷ []) in omega (arith, e)
+use Rattle.theory.proofs.Reading.{one_more, reads, before}
 
 module _ (g : Graph) (e : Table) (word : List ℕ) (q : ℕ) (loops : (z : ℕ) → T (g.inner z) → T (e z z)) where
-  reads : (u w v : List ℕ) (z : ℕ) → T (g.inner z) → v ≡ g.label z ∷ w → word ≡ u ++ v → Reads g word (length u) z
-  reads u w v z i d f =
-      record { inner = i; label = subst (λ t. get_elem? t (length u) ≡ some (g.label z)) (sym (f ∙ ap (λ t. u ++ t) d)) (between u w (g.label z)) }
-
   shifted : (u w v : List ℕ) (z : ℕ) → v ≡ g.label z ∷ w → word ≡ u ++ v → word ≡ (u ++ (g.label z ∷ [])) ++ w
   shifted u w v z d f = f ∙ ap (λ t. u ++ t) d ∙ sym (append_assoc u (g.label z ∷ []) w)
 
@@ -44,7 +32,7 @@ module _ (g : Graph) (e : Table) (word : List ℕ) (q : ℕ) (loops : (z : ℕ) 
   least P l (edge {y} p k) true h u f c = least P l p false h u f (c.1 y k)
   least P l (edge p k) false h u f c = absurd h
   least P l (down {w} {v} {y = z} p i d) b h u f c =
-      least P l p true h (u ++ (g.label z ∷ [])) (shifted u w v z d f) (onward P l u z (reads u w v z i d f) (ends P (length u) (g.next z) b c))
+      least P l p true h (u ++ (g.label z ∷ [])) (shifted u w v z d f) (onward P l u z (reads g word u w v z i d f) (ends P (length u) (g.next z) b c))
 
   module _ (c P Q : Table) (top : ℕ) (s : Sweep g e c word q top P Q) where
     -- what a lean trail shows: with false, that Q has its end y; with true, that Q has a node with an edge to y
@@ -70,23 +58,17 @@ module _ (g : Graph) (e : Table) (word : List ℕ) (q : ℕ) (loops : (z : ℕ) 
         ((r.0, k y r.1 j), (y, r.1, j))
     inside (edge p j) false h u f t o k = absurd h
     inside (down {w} {v} {y = z} p i d) b h u f t o k =
-        let a = reads u w v z i d f in
+        let a = reads g word u w v z i d f in
         let m = ends P (length u) (g.next z) b o in
         let n = one_more u (g.label z) in
         let r = inside p true h (u ++ (g.label z ∷ [])) (shifted u w v z d f) t (onward P s.levels u z a m) (λ y y1 y2. s.put (length u) z a y (subst (λ n. T (Q n y)) n y1) y2 m) in
         let (y, y1, y2) = r.1 in
         (r.0, came (length u) (g.next z) b o (s.again (length u) z a y (subst (λ n. T (Q n y)) n y1) y2 m))
 
-  before : (x z : ℕ) → T (g.inner z) → T (e x z) → {v : List ℕ} {y : ℕ} (π : Trail g (Holds e) (g.next z) v y) (b : Bool) → Lean π b → (τ : Trail g (Holds e) x (v ++ (g.label z ∷ [])) y) × Lean τ b
-  before x z i k here b h = (down (edge here k) i refl, tt)
-  before x z i k (edge p j) true h = let r = before x z i k p false h in (edge r.0 j, r.1)
-  before x z i k (edge p j) false h = absurd h
-  before x z i k (down p j d) b h = let r = before x z i k p true h in (down r.0 j (ap (λ t. t ++ (g.label z ∷ [])) d), r.1)
-
   pub leveling : T (e q q) → Leveling g e word q
   leveling own =
       record {
         least = λ P l x π h. least P l π true h [] refl (own, l.none);
         within = λ c P Q top s x π h t. (inside c P Q top s π true h [] refl t (own, s.levels.none) s.last).0;
-        longer = λ x z v i k π h. before x z i k π true h;
+        longer = λ x z v i k π h. before g (Holds e) x z i k π true h;
       }

@@ -5,4 +5,5 @@ pub mod Trails
 pub mod Useful
 pub mod Order
 pub mod Nodes
+pub mod Reading
 pub mod Leveled

@@ -1,17 +1,12 @@
 -- Lawful entries, with one more behind them.
-use Rattle.std.proofs.Common.{◌≡◌, ℕ, zero, suc, ◌<◌, ◌≤◌, Bool, true, List, [], ◌∷◌, ◌++◌, length, take, drop, Some, Ordering, Less, Equal, Greater, sym, refl, ap, ◌∙◌, append-nil, arith}
-use Rattle.std.specs.Ordering.{is_lt}
+use Rattle.std.proofs.Common.{◌≡◌, ℕ, zero, suc, ◌<◌, ◌≤◌, Bool, true, List, [], ◌∷◌, ◌++◌, length, take, drop, Some, sym, refl, ap, ◌∙◌, append-nil, arith}
 use Rattle.std.proofs.lemmas.List.{append_assoc, length-append, length_push, take-append-drop}
 use Rattle.std.proofs.lemmas.Bool.{and_parts, and_from}
 use Rattle.machine.specs.Lists.{all}
 use Rattle.entries.specs.Sorts.{Sort, Laws}
 use Rattle.entries.specs.Sections.{follows, BelowAll, Ascending, Lawful, joined}
+use Rattle.entries.proofs.Below.{lift}
 use Rattle.writing.specs.Histories.{last_of}
-
-is_less : (o : Ordering) → is_lt o ≡ true → o ≡ Less
-is_less Less h = refl
-is_less Equal h = absurd (let z : ◌≡◌ {A = ℕ} 0 1 = cc in omega arith)
-is_less Greater h = absurd (let z : ◌≡◌ {A = ℕ} 0 1 = cc in omega arith)
 
 pub last_push : {X : Type 0} (xs : List X) (x : X) → last_of (xs ++ x ∷ []) ≡ Some x
 last_push [] x = refl
@@ -85,19 +80,12 @@ module _ {X : Type 0} (e : Sort X) where
       (all_last e.lawful xs x l.limits, ascending_last xs x l.ascending, f)
 
 module _ {X : Type 0} (e : Sort X) (laws : Laws e) where
-  less : (x y z : X) → is_lt (e.rank x y) ≡ true → is_lt (e.rank y z) ≡ true → is_lt (e.rank x z) ≡ true
-  less x y z h k = ap is_lt (laws.through x y z (is_less _ h) (is_less _ k))
-
-  lift : (x y : X) → is_lt (e.rank x y) ≡ true → (zs : List X) → BelowAll e y zs → BelowAll e x zs
-  lift x y h [] a = tt
-  lift x y h (z ∷ zs) a = (less x y z h a.0, lift x y h zs a.1)
-
   ascending_push : (xs : List X) (x : X) → Ascending e xs → follows e (last_of xs) x ≡ true → Ascending e (xs ++ x ∷ [])
   ascending_push [] x a h = (tt, tt)
   ascending_push (y ∷ []) x a h = ((h, tt), (tt, tt))
   ascending_push (y ∷ z ∷ zs) x a h =
       let i = ascending_push (z ∷ zs) x a.1 h in
-      ((a.0.0, lift y z a.0.0 (zs ++ x ∷ []) i.0), i)
+      ((a.0.0, lift e laws y z a.0.0 (zs ++ x ∷ []) i.0), i)
 
   pub lawful_push : (most : ℕ) (xs : List X) (x : X) → Lawful e most xs → e.lawful x ≡ true → follows e (last_of xs) x ≡ true → length xs < most
       → Lawful e most (xs ++ x ∷ [])

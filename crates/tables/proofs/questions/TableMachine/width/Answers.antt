@@ -3,7 +3,8 @@ use Rattle.machine.specs.Rows.{zero_row}
 use Rattle.machine.specs.Lists.{above, ends}
 use Rattle.tables.specs.Tables.{lists_of}
 use Rattle.tables.proofs.Places.{places}
-use Rattle.tables.proofs.Widths.{rows_step, rows_finish, above-append}
+use Rattle.machine.proofs.Largest.{above-append}
+use Rattle.tables.proofs.Widths.{rows_step, rows_finish}
 use Rattle.tables.proofs.questions.TableMachine.width.Goals as goal
 
 pub loop-place-preserved : goal.loop-place-preserved
