@@ -1,18 +1,16 @@
 -- Reading a file of three sections, section by section.
-use Rattle.std.proofs.Common.{◌≡◌, ℕ, suc, ◌+◌, ◌*◌, ◌<◌, ◌≤◌, Bool, true, false, cond, ◌&&◌, eqb, List, [], ◌∷◌, ◌++◌, length, get_or, take, drop, Ok, Err, Result, sym, refl, ap, ◌∙◌, subst, append-nil, arith, length-append, length-take}
-use Rattle.std.proofs.lemmas.List.{drop-drop, drop_at, take_at, length-drop}
-use Rattle.std.proofs.lemmas.Bool.{eq-eqb, eqb-true, lt-ltb, and_parts}
+use Rattle.std.proofs.Common.{◌≡◌, ℕ, suc, ◌+◌, ◌*◌, ◌<◌, ◌≤◌, Bool, true, false, cond, ◌&&◌, eqb, List, [], ◌∷◌, ◌++◌, length, get_or, take, drop, is_ok, Ok, Err, Result, sym, refl, ap, ◌∙◌, subst, append-nil, arith, length-take}
+use Rattle.std.proofs.lemmas.Bool.{eqb-true, lt-ltb, and_parts}
 use Rattle.std.proofs.lemmas.Bool.Decides.{nat_tests}
 use Rattle.machine.specs.declared.fault.Fault.{Fault}
 use Rattle.machine.specs.declared.fault.Rule.TheVariants.{Rest}
 use Rattle.machine.specs.Faults.{fault}
 use Rattle.machine.specs.Rows.{is_byte}
 use Rattle.machine.specs.Lists.{all}
-use Rattle.entries.specs.declared.sizes.Sizes.{Sizes}
 use Rattle.entries.specs.Sorts.{Laws}
 use Rattle.entries.specs.Sections.{and_then, Read, read_section, holding, entries, joined, section_bytes}
-use Rattle.entries.specs.Files.{Layout, Content, read_file, LawfulFile, encode_file, FileLaws, shows}
-use Rattle.entries.proofs.Sections.{length-entries, length-joined, section_given, section_parts, Parts, parts_bytes}
+use Rattle.entries.specs.Files.{Layout, Content, read_file, LawfulFile, encode_file, FileLaws, found, Holds}
+use Rattle.entries.proofs.Sections.{length-entries, section_given, section_parts, Parts, parts_bytes}
 use Rattle.entries.proofs.Prefixes.{Near, stopped, read, near_section}
 
 -- A slice of bytes holds bytes.
@@ -66,50 +64,36 @@ module _ {X Y Z : Type 0} (l : Layout X Y Z) where
   module _ (bs : List ℕ) (n₁ : ℕ) (r₁ : List ℕ) (first : read_section l.first 1 l.most_first bs ≡ Ok (holding l.first n₁ bs r₁))
       (n₂ : ℕ) (r₂ : List ℕ) (second : read_section l.second 2 l.most_second r₁ ≡ Ok (holding l.second n₂ r₁ r₂))
       (n₃ : ℕ) (r₃ : List ℕ) (third : read_section l.third 3 l.most_third r₂ ≡ Ok (holding l.third n₃ r₂ r₃)) where
-    abbrev found : Content X Y Z
-    found = record { first = entries l.first n₁ (drop 2 bs); second = entries l.second n₂ (drop 2 r₁); third = entries l.third n₃ (drop 2 r₂) }
+    abbrev content : Content X Y Z
+    content = record { first = entries l.first n₁ (drop 2 bs); second = entries l.second n₂ (drop 2 r₁); third = entries l.third n₃ (drop 2 r₂) }
 
-    by_rest : (b : Bool) → eqb (length r₃) 0 ≡ b → read_file l bs ≡ cond b (Ok found) (Err (fault Rest 3 n₃))
+    by_rest : (b : Bool) → eqb (length r₃) 0 ≡ b → read_file l bs ≡ cond b (Ok content) (Err (fault Rest 3 n₃))
     by_rest b e =
         by_third bs (holding l.first n₁ bs r₁) first (holding l.second n₂ r₁ r₂) second (Ok (holding l.third n₃ r₂ r₃)) third
-        ∙ ap (λ x. cond x (Ok found) (Err (fault Rest 3 (length (entries l.third n₃ (drop 2 r₂)))))) e
-        ∙ ap (λ k. cond b (Ok found) (Err (fault Rest 3 k))) (length-entries l.third n₃ (drop 2 r₂))
+        ∙ ap (λ x. cond x (Ok content) (Err (fault Rest 3 (length (entries l.third n₃ (drop 2 r₂)))))) e
+        ∙ ap (λ k. cond b (Ok content) (Err (fault Rest 3 k))) (length-entries l.third n₃ (drop 2 r₂))
 
     pub remains : eqb (length r₃) 0 ≡ false → read_file l bs ≡ Err (fault Rest 3 n₃)
     remains e = by_rest false e
 
-    pub sized : eqb (length r₃) 0 ≡ true → shows (read_file l bs) (record { first = n₁; second = n₂; third = n₃ }) ≡ true
-    sized none =
-        let a = eq-eqb (length found.first) n₁ (length-entries l.first n₁ (drop 2 bs)) in
-        let b = eq-eqb (length found.second) n₂ (length-entries l.second n₂ (drop 2 r₁)) in
-        let c = eq-eqb (length found.third) n₃ (length-entries l.third n₃ (drop 2 r₂)) in
-        let z : Sizes = record { first = n₁; second = n₂; third = n₃ } in
-        let t : (eqb (length found.first) n₁ && (eqb (length found.second) n₂ && eqb (length found.third) n₃)) ≡ true = cc in
-        ap (λ x. shows x z) (by_rest true none) ∙ t
-
-  -- What the bytes and the sizes of a file that was read tell.
-  pub record Shown (bs : List ℕ) (z : Sizes) (m : Content X Y Z) : Type 0 where
-    pub opens : read_file l bs ≡ Ok m
-    pub first : length m.first ≡ z.first
-    pub second : length m.second ≡ z.second
-    pub third : length m.third ≡ z.third
-
-  shown_by : (bs : List ℕ) (o : Result (Content X Y Z) Fault) (z : Sizes) → read_file l bs ≡ o → shows o z ≡ true → (m : Content X Y Z) × Shown bs z m
-  shown_by bs (Err f) z e h = absurd (let z : ◌≡◌ {A = ℕ} 0 1 = cc in omega arith)
-  shown_by bs (Ok m) z e h =
-      let a = and_parts (eqb (length m.first) z.first) _ h in
-      let b = and_parts (eqb (length m.second) z.second) _ a.1 in (
-        m,
+    pub held : eqb (length r₃) 0 ≡ true → (a b c : List ℕ) → a ≡ joined l.first.encode (entries l.first n₁ (drop 2 bs)) → b ≡ joined l.second.encode (entries l.second n₂ (drop 2 r₁))
+        → c ≡ joined l.third.encode (entries l.third n₃ (drop 2 r₂)) → Holds l bs a b c
+    held none a b c x y z =
+        let e : read_file l bs ≡ Ok content = by_rest true none in
+        let k : content ≡ found (read_file l bs) = ap found (sym e) in
         record {
-          opens = e;
-          first = eqb-true (length m.first) z.first a.0;
-          second = eqb-true (length m.second) z.second b.0;
-          third = eqb-true (length m.third) z.third b.1;
-        },
-      )
+          reads = ap is_ok e;
+          first_bytes = x ∙ ap (λ (m : Content X Y Z). joined l.first.encode m.first) k;
+          second_bytes = y ∙ ap (λ (m : Content X Y Z). joined l.second.encode m.second) k;
+          third_bytes = z ∙ ap (λ (m : Content X Y Z). joined l.third.encode m.third) k;
+        }
 
-  pub shown : (bs : List ℕ) (z : Sizes) → shows (read_file l bs) z ≡ true → (m : Content X Y Z) × Shown bs z m
-  shown bs z h = shown_by bs (read_file l bs) z refl h
+  read_by : (o : Result (Content X Y Z) Fault) → is_ok o ≡ true → o ≡ Ok (found o)
+  read_by (Ok m) h = refl
+  read_by (Err f) h = absurd (let z : ◌≡◌ {A = ℕ} 0 1 = cc in omega arith)
+
+  pub reads : (bs a b c : List ℕ) → Holds l bs a b c → read_file l bs ≡ Ok (found (read_file l bs))
+  reads bs a b c h = read_by (read_file l bs) h.reads
 
   module _ (p : Laws l.first) (q : Laws l.second) (r : Laws l.third) where
     pub record Sections (bs : List ℕ) (m : Content X Y Z) : Type 0 where
@@ -168,43 +152,6 @@ module _ {X Y Z : Type 0} (l : Layout X Y Z) where
         record {
           exactly = λ bs m b. (encoded bs m b, λ h. ap (read_file l) h.1 ∙ reads_back m h.0);
           same = λ m n w k e. ok_same m n (sym (reads_back m w) ∙ ap (read_file l) e ∙ reads_back n k);
-        }
-
-    -- Where the sections stand in the bytes.
-    pub record Places (bs : List ℕ) (z : Sizes) (m : Content X Y Z) : Type 0 where
-      pub first_end : 2 + l.first.wide * z.first ≤ length bs
-      pub second_end : 4 + l.first.wide * z.first + l.second.wide * z.second ≤ length bs
-      pub third_begin : 6 + l.first.wide * z.first + l.second.wide * z.second ≤ length bs
-      pub first : take (l.first.wide * z.first) (drop 2 bs) ≡ joined l.first.encode m.first
-      pub second : take (l.second.wide * z.second) (drop (4 + l.first.wide * z.first) bs) ≡ joined l.second.encode m.second
-      pub third : drop (6 + l.first.wide * z.first + l.second.wide * z.second) bs ≡ joined l.third.encode m.third
-
-    pub places : (bs : List ℕ) (z : Sizes) (m : Content X Y Z) → Shown bs z m → Places bs z m
-    places bs z m k =
-        let s = sections bs m k.opens in
-        let a = s.first in
-        let b = s.second in
-        let c = s.third in
-        let xs : List ℕ = joined l.first.encode m.first in
-        let ys : List ℕ = joined l.second.encode m.second in
-        let i : ℕ = l.first.wide * z.first in
-        let j : ℕ = l.second.wide * z.second in
-        let u : length xs ≡ i = length-joined l.first p m.first a.lawful.limits ∙ ap (λ n. l.first.wide * n) k.first in
-        let v : length ys ≡ j = length-joined l.second q m.second b.lawful.limits ∙ ap (λ n. l.second.wide * n) k.second in
-        let lp = simp (length-drop, length-append) at (ap length a.bytes) in
-        let lq = simp (length-drop, length-append) at (ap length b.bytes) in
-        let r₁ : drop (2 + i) bs ≡ s.after_first = sym (drop-drop i 2 bs) ∙ ap (drop i) a.bytes ∙ drop_at xs s.after_first i u in
-        let e₁ : 2 + i + 2 ≡ 4 + i = omega arith in
-        let d₁ : drop (4 + i) bs ≡ ys ++ s.after_second = ap (λ n. drop n bs) (sym e₁) ∙ sym (drop-drop 2 (2 + i) bs) ∙ ap (drop 2) r₁ ∙ b.bytes in
-        let r₂ : drop (4 + i + j) bs ≡ s.after_second = sym (drop-drop j (4 + i) bs) ∙ ap (drop j) d₁ ∙ drop_at ys s.after_second j v in
-        let e₂ : 4 + i + j + 2 ≡ 6 + i + j = omega arith in
-        record {
-          first_end = omega (arith, lp, lq, u, v, a.long, b.long, c.long);
-          second_end = omega (arith, lp, lq, u, v, a.long, b.long, c.long);
-          third_begin = omega (arith, lp, lq, u, v, a.long, b.long, c.long);
-          first = ap (take i) a.bytes ∙ take_at xs s.after_first i u;
-          second = ap (take j) d₁ ∙ take_at ys s.after_second j v;
-          third = ap (λ n. drop n bs) (sym e₂) ∙ sym (drop-drop 2 (4 + i + j) bs) ∙ ap (drop 2) r₂ ∙ c.bytes ∙ append-nil (joined l.third.encode m.third);
         }
 
     -- A byte more than the longest file decides.

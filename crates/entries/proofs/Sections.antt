@@ -1,6 +1,6 @@
 -- Reading a section, entry by entry.
 use Rattle.std.proofs.Common.{◌≡◌, ℕ, zero, suc, ◌+◌, ◌-◌, ◌*◌, ◌/◌, ◌%◌, ◌<◌, ◌≤◌, Bool, true, false, cond, ◌&&◌, ltb, List, [], ◌∷◌, ◌++◌, length, get_or, take, drop, Some, None, Ok, Err, Option, Result, unwrap_or, sym, refl, ap, ◌∙◌, subst, append_assoc, mul-zero, mul-suc, arith, length-append}
-use Rattle.std.proofs.lemmas.List.{take_rest, take-append-drop, drop_at, drop-drop, length-drop}
+use Rattle.std.proofs.lemmas.List.{take_rest, take-append-drop, take_at, drop_at, drop-drop, length-drop}
 use Rattle.std.proofs.lemmas.Bool.{ltb-true, ltb-false, lt-ltb, le-ltb, and_parts}
 use Rattle.machine.specs.declared.fault.Fault.{Fault}
 use Rattle.machine.specs.declared.fault.Rule.TheVariants.{Short, Order, Limits, Count}
@@ -195,6 +195,12 @@ module _ {X : Type 0} (e : Sort X) (laws : Laws e) (s most : ℕ) where
       ∙ ap (λ b. cond b (Err (fault Count s 0)) (Ok (count_of bs))) (le-ltb most (count_of bs) few)
       ∙ ap {B = Result ℕ Fault} (λ m. Ok m) c in
       section_by e s most n bs r (Ok rest) g.0 ∙ ap {B = Result (Read X) Fault} (λ ys. Ok (record { held = ys; rest = rest })) g.1
+
+-- What stands in front of a list's end.
+pub front : {X : Type 0} (bs xs ys : List X) → bs ≡ xs ++ ys → take (length bs - length ys) bs ≡ xs
+front bs xs ys e =
+    let n : length bs ≡ length xs + length ys = ap length e ∙ length-append xs ys in
+    ap (take (length bs - length ys)) e ∙ take_at xs ys (length bs - length ys) (omega arith)
 
 -- What came of a section that was read, as sections are told by their outcome.
 module _ {X : Type 0} (e : Sort X) (laws : Laws e) (s most : ℕ) where

@@ -1,13 +1,12 @@
 -- A file of three sections, one after the other, with nothing behind them.
-use Rattle.std.specs.Prelude.{◌≡◌, ℕ, Bool, true, false, cond, ◌&&◌, ◌↔◌, List, ◌++◌, length, Ok, Err, Result, ◌==◌}
+use Rattle.std.specs.Prelude.{◌≡◌, ℕ, true, cond, ◌↔◌, List, [], ◌++◌, length, is_ok, Ok, Err, Result, ◌==◌}
 use Rattle.machine.specs.declared.fault.Fault.{Fault}
 use Rattle.machine.specs.declared.fault.Rule.TheVariants.{Rest}
 use Rattle.machine.specs.Faults.{fault}
 use Rattle.machine.specs.Rows.{is_byte}
 use Rattle.machine.specs.Lists.{all}
-use Rattle.entries.specs.declared.sizes.Sizes.{Sizes}
 use Rattle.entries.specs.Sorts.{Sort}
-use Rattle.entries.specs.Sections.{and_then, read_section, section_bytes, Lawful}
+use Rattle.entries.specs.Sections.{and_then, read_section, joined, section_bytes, Lawful}
 
 -- The sort of each section's entries, and how many there may be.
 pub record Layout (X Y Z : Type 0) : Type 0 where
@@ -53,7 +52,14 @@ pub record FileLaws {X Y Z : Type 0} (l : Layout X Y Z) : Type 0 where
   -- lawful contents with the same bytes are the same
   pub same : (m n : Content X Y Z) → LawfulFile l m → LawfulFile l n → encode_file l m ≡ encode_file l n → m ≡ n
 
--- The bytes were read, and the sections have these sizes.
-abbrev pub shows : {X Y Z : Type 0} → Result (Content X Y Z) Fault → Sizes → Bool
-shows (Ok m) z = length m.first == z.first && (length m.second == z.second && length m.third == z.third)
-shows (Err f) z = false
+-- The content that was found; none for bytes that are refused.
+abbrev pub found : {X Y Z : Type 0} → Result (Content X Y Z) Fault → Content X Y Z
+found (Ok m) = m
+found (Err f) = record { first = []; second = []; third = [] }
+
+-- The bytes were read, and these are the bytes of the entries of each section.
+pub record Holds {X Y Z : Type 0} (l : Layout X Y Z) (bs first second third : List ℕ) : Type 0 where
+  pub reads : is_ok (read_file l bs) ≡ true
+  pub first_bytes : first ≡ joined l.first.encode (found (read_file l bs)).first
+  pub second_bytes : second ≡ joined l.second.encode (found (read_file l bs)).second
+  pub third_bytes : third ≡ joined l.third.encode (found (read_file l bs)).third

@@ -111,13 +111,15 @@ rows_laws =
       through = rows_order.through;
     }
 
--- Lawful rows are ordered as their bytes are.
-pub bytewise : (a b : Row) → lawful_row a ≡ true → lawful_row b ≡ true → row_rank a b ≡ lexical (row_bytes a) (row_bytes b)
-bytewise a b h k =
-    let t = words_ten a h in
-    let u = words_ten b k in
+-- Rows whose words have as many bytes are ordered as their bytes are.
+pub by_bytes : (a b : Row) → length a.popped.symbols ≡ length b.popped.symbols → row_rank a b ≡ lexical (row_bytes a) (row_bytes b)
+by_bytes a b h =
     let x : Ordering = lexical (heads a) (heads b) in
     let y : Ordering = lexical a.popped.symbols b.popped.symbols in
     then_assoc x y (lexical a.pushed.symbols b.pushed.symbols)
-    ∙ ap (ordering_then x) (sym (lexical-append a.popped.symbols b.popped.symbols a.pushed.symbols b.pushed.symbols (t.0 ∙ sym u.0)))
+    ∙ ap (ordering_then x) (sym (lexical-append a.popped.symbols b.popped.symbols a.pushed.symbols b.pushed.symbols h))
     ∙ sym (lexical-append (heads a) (heads b) (a.popped.symbols ++ a.pushed.symbols) (b.popped.symbols ++ b.pushed.symbols) refl)
+
+-- So are lawful rows.
+pub bytewise : (a b : Row) → lawful_row a ≡ true → lawful_row b ≡ true → row_rank a b ≡ lexical (row_bytes a) (row_bytes b)
+bytewise a b h k = by_bytes a b ((words_ten a h).0 ∙ sym (words_ten b k).0)

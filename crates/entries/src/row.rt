@@ -1,7 +1,7 @@
 //! Rows as entries: 25 bytes, ordered byte by byte from the first on.
 ghost use Rattle.std.specs.Prelude.{◌≡◌, ◌+◌, ◌≤◌, true, length};
 ghost use Rattle.entries.specs.Sorts.{Sort, Laws, entry_at, lexical};
-ghost use Rattle.entries.specs.Rows.{rows, word_of, row_bytes};
+ghost use Rattle.entries.specs.Rows.{rows, row_bytes};
 ghost use Rattle.machine.specs.Rows.{lawful_row};
 ghost use Rattle.entries.specs.RowBytes.{rows_laws};
 
@@ -10,23 +10,12 @@ use crate::entry::Entry;
 use machine::row::{Row, Word};
 use std::cmp::Ordering;
 
-const WORD: usize = 10;
-
 const ROW: usize = 25;
-
-// A word of the given length, in ten bytes.
-fn word(len: u8, bytes: &[u8]) -> Word
-    requires { length bytes.now ≡ 10 }
-    ensures { result ≡ word_of len bytes.now }
-{
-    let mut symbols = [0; WORD];
-    symbols.copy_from_slice(bytes);
-    Word { len, symbols }
-}
 
 // The 25 bytes of a row.
 fn bytes_of(row: &Row) -> [u8; ROW]
-    ensures { result ≡ row_bytes row.now }
+    ensures bytes { result ≡ row_bytes row.now }
+    ensures ten { length row.now.popped.symbols ≡ 10 }
 {
     let mut bytes = [0; ROW];
     bytes[0] = row.from;
@@ -52,15 +41,20 @@ impl Entry for Row {
         let [from, letter, to, popped_len, pushed_len, words @ ..] = bytes else {
             return None;
         };
-        if words.len() < 2 * WORD {
-            return None;
-        }
+        let (popped, rest) = words.split_first_chunk()?;
+        let pushed = rest.first_chunk()?;
         Some(Row {
             from: *from,
             letter: *letter,
             to: *to,
-            popped: word(*popped_len, &words[0..WORD]),
-            pushed: word(*pushed_len, &words[WORD..2 * WORD]),
+            popped: Word {
+                len: *popped_len,
+                symbols: *popped,
+            },
+            pushed: Word {
+                len: *pushed_len,
+                symbols: *pushed,
+            },
         })
     }
 
@@ -73,24 +67,7 @@ impl Entry for Row {
         ensures ranked { result ≡ rows.rank self.now other.now }
         ensures bytewise { lawful_row self.now ≡ true → lawful_row other.now ≡ true → result ≡ lexical (rows.encode self.now) (rows.encode other.now) }
     {
-        let heads = [
-            self.from,
-            self.letter,
-            self.to,
-            self.popped.len,
-            self.pushed.len,
-        ];
-        let others = [
-            other.from,
-            other.letter,
-            other.to,
-            other.popped.len,
-            other.pushed.len,
-        ];
-        heads
-            .cmp(&others)
-            .then(self.popped.symbols.cmp(&other.popped.symbols))
-            .then(self.pushed.symbols.cmp(&other.pushed.symbols))
+        bytes_of(self).cmp(&bytes_of(other))
     }
 
     fn write(&self, out: &mut [u8], at: usize) -> bool {

@@ -1,4 +1,4 @@
-//! How many entries each section of a file has.
+//! How many entries each section of a file has, or may have.
 #[derive(Clone, Copy)]
 pub struct Sizes {
     pub first: usize,

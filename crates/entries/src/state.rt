@@ -18,10 +18,7 @@ impl Entry for u8 {
     }
 
     fn from_bytes(bytes: &[u8]) -> Option<u8> {
-        match bytes {
-            [state, ..] => Some(*state),
-            [] => None,
-        }
+        bytes.first().copied()
     }
 
     fn is_lawful(&self) -> bool {

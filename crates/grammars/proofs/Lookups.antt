@@ -1,15 +1,13 @@
 -- Looking for a terminal, place by place.
-use Rattle.std.proofs.Common.{◌≡◌, ℕ, ◌+◌, ◌<◌, ◌≤◌, Bool, true, false, cond, eqb, List, [], ◌∷◌, length, get_or, drop, Some, None, Option, sym, refl, ap, ◌∙◌, ap₂, inl, inr, arith}
+use Rattle.std.proofs.Common.{◌≡◌, ℕ, suc, ◌+◌, ◌<◌, Bool, true, false, cond, eqb, ltb, List, [], ◌∷◌, length, get_or, Some, None, Option, sym, refl, ap, ◌∙◌, ap₂, inl, inr, arith}
 use mathlib.Core.List.Memᴰ
 use mathlib.Core.List.{Memᴰ}
-use Rattle.std.specs.List.{IsAnyAnswer}
-use Rattle.std.proofs.lemmas.List.{at_drop_more, at_drop_all, length-map, get_or-map}
+use Rattle.std.specs.List.{IsAnyAnswer, position_or_len, position_from, find, range_with_len}
+use Rattle.std.proofs.lemmas.Iterator.Adapters.{position_from-zero}
 use Rattle.std.proofs.lemmas.Bool.{cases_Bool, or_cases, or_left, or_right, eqb-true, eq-eqb, both_ways}
 use Rattle.std.proofs.lemmas.List.Elements.{contains_decides}
 use Rattle.std.proofs.lemmas.Bool.Decides.{same_from_decides, Decides-eqb, Decides-by_or}
-use Rattle.grammars.specs.declared.production.Production.{Production}
-use Rattle.grammars.specs.Productions.{zero_production}
-use Rattle.grammars.specs.Grammars.{lefts_of, is_among, first_terminal, Apart}
+use Rattle.grammars.specs.Grammars.{is_among, first_terminal, Apart}
 
 -- What `contains` tells.
 pub among : (ts : List ℕ) (s : ℕ) (r : Bool) → IsAnyAnswer (λ y t. eqb y s ≡ t) ts r → r ≡ is_among s ts
@@ -17,24 +15,25 @@ among ts s r h =
     same_from_decides r (is_among s ts) (contains_decides eqb Decides-eqb ts s r h)
     (Decides-by_or (λ t. eqb t s) (λ t. t ≡ s) (is_among s) (λ t. Decides-eqb t s) refl (λ _ _. refl) ts)
 
-module _ (ts ss : List ℕ) (i : ℕ) where
-  pub one : i < length ss → (b : Bool) → b ≡ is_among (get_or ss i 0) ts → first_terminal ts i (drop i ss) ≡ cond b (Some i) (first_terminal ts (i + 1) (drop (i + 1) ss))
-  one h b e = at_drop_more (first_terminal ts i) ss i 0 h ∙ ap (λ x. cond x (Some i) (first_terminal ts (i + 1) (drop (i + 1) ss))) (sym e)
+-- The first place of a terminal, as the library tells it of a list, and of the numbers from 0 on.
+module _ (ts : List ℕ) where
+  placed : (p : ℕ) (ss : List ℕ) → position_from (λ s. is_among s ts) p ss ≡ first_terminal ts p ss
+  placed p [] = refl
+  placed p (s ∷ ss) = ap (λ o. cond (is_among s ts) (Some p) o) (placed (p + 1) ss)
 
-  pub ended : length ss ≤ i → first_terminal ts i (drop i ss) ≡ None
-  ended h = at_drop_all (first_terminal ts i) ss i h
+  pub first_place : (ss : List ℕ) → cond (ltb (position_or_len (λ s. is_among s ts) ss) (length ss)) (Some (position_or_len (λ s. is_among s ts) ss)) None ≡ first_terminal ts 0 ss
+  first_place ss = position_from-zero (λ s. is_among s ts) ss ∙ placed 0 ss
 
--- The same over the left sides of rules, as the code reads them.
-module _ (ts : List ℕ) (ps : List Production) (i : ℕ) where
-  pub one_left : i < length ps → (p : Production) → p ≡ get_or ps i zero_production → (b : Bool) (us : List ℕ) → us ≡ ts → b ≡ is_among p.left us
-      → first_terminal ts i (drop i (lefts_of ps)) ≡ cond b (Some i) (first_terminal ts (i + 1) (drop (i + 1) (lefts_of ps)))
-  one_left h p e b us u k =
-      let l : i < length (lefts_of ps) = simp length-map (omega arith) in
-      let n : p.left ≡ get_or (lefts_of ps) i 0 = ap (λ (q : Production). q.left) e ∙ sym (get_or-map (λ (q : Production). q.left) ps i zero_production 0 h) in
-      one ts (lefts_of ps) i l b (k ∙ ap₂ {C = Bool} is_among n u)
+  numbered : (f : ℕ → ℕ) (p : ℕ) (ss : List ℕ) → ((i : ℕ) → i < length ss → f (p + i) ≡ get_or ss i 0) → find (λ i. is_among (f i) ts) (range_with_len p (length ss)) ≡ first_terminal ts p ss
+  numbered f p [] h = refl
+  numbered f p (s ∷ ss) h =
+      let here : p ≡ p + 0 = omega arith in
+      let next : (i : ℕ) → p + 1 + i ≡ p + suc i = λ i. omega arith in
+      ap₂ {C = Option ℕ} (λ b o. cond b (Some p) o) (ap (λ x. is_among x ts) (ap f here ∙ h 0 (omega arith)))
+      (numbered f (p + 1) ss (λ i l. ap f (next i) ∙ h (suc i) (omega arith)))
 
-  pub ended_left : length ps ≤ i → first_terminal ts i (drop i (lefts_of ps)) ≡ None
-  ended_left h = let l : length (lefts_of ps) ≤ i = simp length-map (omega arith) in ended ts (lefts_of ps) i l
+  pub first_number : (f : ℕ → ℕ) (ss : List ℕ) → ((i : ℕ) → i < length ss → f i ≡ get_or ss i 0) → find (λ i. is_among (f i) ts) (range_with_len 0 (length ss)) ≡ first_terminal ts 0 ss
+  first_number f ss h = let none : (i : ℕ) → 0 + i ≡ i = λ i. omega arith in numbered f 0 ss (λ i l. ap f (none i) ∙ h i l)
 
 -- No place is found exactly where none of the symbols is a terminal.
 among_mem : (s : ℕ) (ts : List ℕ) → is_among s ts ≡ true → Memᴰ s ts

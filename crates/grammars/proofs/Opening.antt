@@ -8,7 +8,9 @@ use Rattle.grammars.specs.declared.symbol.Symbol.{Symbol}
 use Rattle.grammars.specs.declared.production.Production.{Production}
 use Rattle.grammars.specs.SymbolLaws.{symbols_laws}
 use Rattle.grammars.specs.ProductionLaws.{productions_laws}
-use Rattle.grammars.specs.Grammars.{GrammarLists, grammar_layout, content_of, lists_from, numbers_of, lefts_of, terminal_start, terminal_left, unless, check_terminals, open_grammar, listed, grammar_of, Apart, LawfulGrammar, GrammarLaws}
+use Rattle.grammars.specs.Grammars.{GrammarLists, grammar_layout, content_of, lists_from, numbers_of, lefts_of, terminal_start, terminal_left, unless, check_terminals, read_grammar, open_grammar, listed, read_lists, grammar_of, Apart, LawfulGrammar, GrammarLaws}
+use Rattle.grammars.specs.declared.sections.Sections.{Sections}
+use Rattle.grammars.specs.Facts.{by_check}
 use Rattle.grammars.proofs.Lookups.{none_apart, apart_none}
 
 pub by_starts : (g : GrammarLists) (o : Option ℕ) → o ≡ terminal_start g → check_terminals g ≡ unless 1 o (unless 3 (terminal_left g) (Ok g))
@@ -70,8 +72,11 @@ laws =
       same = λ g h l k e. ap lists_from (file_laws.same (content_of g) (content_of h) (of_grammar g l) (of_grammar h k) e);
     }
 
-pub refused : (bs : List ℕ) (f : Fault) → read_file grammar_layout bs ≡ Err f → open_grammar bs ≡ Err f
-refused bs f h = ap {B = Result GrammarLists Fault} (λ o. and_then (and_then o (λ c. Ok (lists_from c))) check_terminals) h
+pub unread : (bs : List ℕ) (f : Fault) → read_file grammar_layout bs ≡ Err f → read_grammar bs ≡ Err f
+unread bs f h = ap {B = Result GrammarLists Fault} (λ o. and_then o (λ c. Ok (lists_from c))) h
+
+pub refused : (bs : List ℕ) (f : Fault) → read_grammar bs ≡ Err f → open_grammar bs ≡ Err f
+refused bs f h = ap {B = Result GrammarLists Fault} (λ o. and_then o check_terminals) h
 
 pub itself : (bs : List ℕ) {g : GrammarLists} → open_grammar bs ≡ Ok g → open_grammar bs ≡ Ok (grammar_of bs)
 itself bs h = h ∙ ap {B = Result GrammarLists Fault} (λ o. Ok (listed o)) (sym h)
@@ -81,3 +86,7 @@ pub enough : (bs : List ℕ) → open_grammar (take 6659 bs) ≡ open_grammar bs
 enough bs =
     ap {B = Result GrammarLists Fault} (λ o. and_then (and_then o (λ c. Ok (lists_from c))) check_terminals)
     (files.enough grammar_layout symbols_laws symbols_laws productions_laws bs 6659 (omega arith))
+
+-- A view of bytes that were read shows what their check decides.
+pub decided : (t : Sections) (bs : List ℕ) → t.bytes.now ≡ bs → open_grammar bs ≡ check_terminals (read_lists t.bytes.now)
+decided t bs e = ap open_grammar (sym e) ∙ by_check t.bytes.now t.starts.now t.terminals.now t.productions.now t.read

@@ -1,35 +1,36 @@
 //! The rows of a grammar in four parts: of the start symbols, of the rules, of the terminals, and the last row.
+ghost use Rattle.std.specs.Prelude.{◌+◌, ◌<◌, MatchOption};
 ghost use Rattle.grammars.specs.Parts.{FallsIn};
 
 use entries::sizes::Sizes;
 
-// The part in which a place falls, with the place in that part.
+// A part, with a place in it.
 #[derive(Clone, Copy)]
 pub enum Part {
     Start(usize),
     Rule(usize),
     Terminal(usize),
     Last,
-    Past,
 }
 
-pub fn part_of(sizes: Sizes, place: usize) -> Part
-    ensures { FallsIn sizes place result }
+// The part in which a place falls; none past the last row.
+pub fn part_of(sizes: Sizes, place: usize) -> Option<Part>
+    ensures { MatchOption result (sizes.first + sizes.third + sizes.second < place) (λ part. FallsIn sizes place part) }
 {
     if place < sizes.first {
-        return Part::Start(place);
+        return Some(Part::Start(place));
     }
     let place = place - sizes.first;
     if place < sizes.third {
-        return Part::Rule(place);
+        return Some(Part::Rule(place));
     }
     let place = place - sizes.third;
     if place < sizes.second {
-        return Part::Terminal(place);
+        return Some(Part::Terminal(place));
     }
     if place == sizes.second {
-        Part::Last
+        Some(Part::Last)
     } else {
-        Part::Past
+        None
     }
 }

@@ -1,7 +1,6 @@
 //! Rules as entries: 12 bytes, ordered byte by byte from the first on.
-ghost use Rattle.std.specs.Prelude.{◌≡◌, length};
+ghost use Rattle.std.specs.Prelude.{◌≡◌};
 ghost use Rattle.machine.specs.Lists.{all};
-ghost use Rattle.entries.specs.Rows.{word_of};
 ghost use Rattle.grammars.specs.Productions.{productions, production_bytes, not_bottom};
 ghost use Rattle.grammars.specs.ProductionLaws.{productions_laws};
 
@@ -10,8 +9,6 @@ use entries::bytes::put_bytes;
 use entries::entry::Entry;
 use machine::row::Word;
 use std::cmp::Ordering;
-
-const WORD: usize = 10;
 
 const PRODUCTION: usize = 12;
 
@@ -28,16 +25,6 @@ impl Production {
         left: 0,
         right: Word::EMPTY,
     };
-}
-
-// A word of the given length, in ten bytes.
-fn word(len: u8, bytes: &[u8]) -> Word
-    requires { length bytes.now ≡ 10 }
-    ensures { result ≡ word_of len bytes.now }
-{
-    let mut symbols = [0; WORD];
-    symbols.copy_from_slice(bytes);
-    Word { len, symbols }
 }
 
 // The 12 bytes of a rule.
@@ -68,15 +55,15 @@ impl Entry for Production {
     }
 
     fn from_bytes(bytes: &[u8]) -> Option<Production> {
-        let [left, len, symbols @ ..] = bytes else {
+        let [left, len, rest @ ..] = bytes else {
             return None;
         };
-        if symbols.len() < WORD {
-            return None;
-        }
         Some(Production {
             left: *left,
-            right: word(*len, &symbols[0..WORD]),
+            right: Word {
+                len: *len,
+                symbols: *rest.first_chunk()?,
+            },
         })
     }
 
@@ -85,11 +72,7 @@ impl Entry for Production {
     }
 
     fn compare(&self, other: &Production) -> Ordering {
-        let heads = [self.left, self.right.len];
-        let others = [other.left, other.right.len];
-        heads
-            .cmp(&others)
-            .then(self.right.symbols.cmp(&other.right.symbols))
+        bytes_of(self).cmp(&bytes_of(other))
     }
 
     fn write(&self, out: &mut [u8], at: usize) -> bool {

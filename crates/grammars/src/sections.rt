@@ -1,50 +1,72 @@
-//! The sections of a file that reads as a grammar, whatever its terminals are: where each stands in the bytes.
-ghost use Rattle.std.specs.Prelude.{◌≡◌, true, slice_index_or};
-ghost use Rattle.entries.specs.Files.{read_file, shows};
-ghost use Rattle.entries.specs.Sections.{joined};
-ghost use Rattle.grammars.specs.Productions.{production_bytes, zero_production};
-ghost use Rattle.grammars.specs.Grammars.{grammar_layout, read_lists, numbers_of};
+//! The sections of a file that reads as a grammar, whatever its terminals are.
+ghost use Rattle.std.specs.Prelude.{◌≡◌, length, slice_index_or, Err, MatchResult};
+ghost use Rattle.entries.specs.Files.{Holds};
+ghost use Rattle.grammars.specs.Productions.{zero_production};
+ghost use Rattle.grammars.specs.Grammars.{grammar_layout, read_grammar, read_lists};
 
 use crate::production::Production;
+use crate::symbol::Symbol;
+use entries::entry::Entry;
+use entries::file::{File, read_file};
 use entries::section::entry_in;
 use entries::sizes::Sizes;
+use machine::fault::Fault;
+
+const MOST_STARTS: usize = 254;
+
+const MOST_TERMINALS: usize = 254;
+
+const MOST_PRODUCTIONS: usize = 512;
+
+const MOST: Sizes = Sizes {
+    first: MOST_STARTS,
+    second: MOST_TERMINALS,
+    third: MOST_PRODUCTIONS,
+};
+
+// The header of three counts, and the largest sections.
+pub(crate) const LONGEST: usize = 6 + MOST_STARTS + MOST_TERMINALS + 12 * MOST_PRODUCTIONS;
 
 // A view of bytes that were read; a start symbol or a left side may still be a terminal.
 #[derive(Clone, Copy)]
 pub struct Sections<'a> {
     pub(crate) bytes: &'a [u8],
-    pub(crate) sizes: Sizes,
-    ghost read: { shows (read_file grammar_layout bytes.now) sizes ≡ true },
+    pub(crate) starts: &'a [u8],
+    pub(crate) terminals: &'a [u8],
+    pub(crate) productions: &'a [u8],
+    ghost read: { Holds grammar_layout bytes.now starts.now terminals.now productions.now },
 }
 
 impl<'a> Sections<'a> {
-    // The bytes of the start symbols, which are the start symbols.
-    pub fn starts(&self) -> &'a [u8]
-        ensures { result.now ≡ numbers_of (read_lists self.now.bytes.now).starts }
+    // The sections of the bytes, or the first fault.
+    pub(crate) fn read(bytes: &'a [u8]) -> Result<Sections<'a>, Fault>
+        ensures { MatchResult result (λ s. s.bytes ≡ bytes.entry) (λ f. read_grammar bytes.now ≡ Err f) }
     {
-        let end = 2 + self.sizes.first;
-        &self.bytes[2..end]
+        let file = read_file::<Symbol, Symbol, Production>(bytes, MOST)?;
+        Ok(Sections {
+            bytes,
+            starts: file.first,
+            terminals: file.second,
+            productions: file.third,
+        })
     }
 
-    pub fn terminals(&self) -> &'a [u8]
-        ensures { result.now ≡ numbers_of (read_lists self.now.bytes.now).terminals }
+    pub fn sizes(&self) -> Sizes
+        ensures first { result.first ≡ length (read_lists self.now.bytes.now).starts }
+        ensures second { result.second ≡ length (read_lists self.now.bytes.now).terminals }
+        ensures third { result.third ≡ length (read_lists self.now.bytes.now).productions }
     {
-        let begin = 4 + self.sizes.first;
-        let end = begin + self.sizes.second;
-        &self.bytes[begin..end]
-    }
-
-    fn production_bytes(&self) -> &'a [u8]
-        ensures { result.now ≡ joined production_bytes (read_lists self.now.bytes.now).productions }
-    {
-        let begin = 6 + self.sizes.first + self.sizes.second;
-        &self.bytes[begin..]
+        Sizes {
+            first: self.starts.len(),
+            second: self.terminals.len(),
+            third: self.productions.len() / Production::width(),
+        }
     }
 
     // The rule at a place, or the rule of zeros where none stands.
     pub fn production(&self, place: usize) -> Production
         ensures { result ≡ slice_index_or (read_lists self.now.bytes.now).productions place zero_production }
     {
-        entry_in(self.production_bytes(), place).unwrap_or(Production::ZERO)
+        entry_in(self.productions, place).unwrap_or(Production::ZERO)
     }
 }

@@ -31,10 +31,7 @@ impl Entry for Symbol {
     }
 
     fn from_bytes(bytes: &[u8]) -> Option<Symbol> {
-        match bytes {
-            [symbol, ..] => Some(Symbol(*symbol)),
-            [] => None,
-        }
+        Some(Symbol(*bytes.first()?))
     }
 
     fn is_lawful(&self) -> bool {

@@ -1,6 +1,8 @@
 //! The one fault type of the library: the rule that was broken, and where.
-ghost use Rattle.std.specs.Prelude.{◌≡◌};
+ghost use Rattle.std.specs.Prelude.{◌≡◌, ◌++◌, Some, codes, decimal};
 ghost use Rattle.machine.specs.Faults.{number, fault};
+
+use std::fmt;
 
 // What can be refused; docs/FAULTS.md says when, by whom, and what memory is left.
 #[derive(Clone, Copy, PartialEq, Eq, Debug)]
@@ -58,4 +60,14 @@ pub struct Fault {
     pub rule: Rule,
     pub section: u8,
     pub place: usize,
+}
+
+// The word `refused`, and the three numbers.
+impl fmt::Display for Fault {
+    ghost output = { λ f. Some (codes "refused " ++ decimal (number f.rule) ++ codes " " ++ decimal f.section ++ codes " " ++ decimal f.place) };
+
+    fn fmt<W: fmt::Write>(&self, f: &mut fmt::Formatter<W>) -> fmt::Result {
+        let number = self.rule.number();
+        write!(f, "refused {number} {} {}", self.section, self.place)
+    }
 }

@@ -16,15 +16,6 @@ pub trait Machine {
     // the starts, the accepting states and the rows
     ghost lists: { Self → Lists };
 
-    // the lists are those that the layout defines
-    ghost laid: { (m : Self) → lists m ≡ layout (shown m) };
-
-    // at most 256 starts, 256 accepting states and 1,024 rows
-    ghost few: { (m : Self) → Few (lists m) };
-
-    // every state, letter, symbol and word keeps its limits
-    ghost limits: { (m : Self) → Limits (lists m) };
-
     // One more than the largest state in the lists, or 0 where they are all empty.
     fn width(&self) -> usize
         ensures { result ≡ width_of (lists self.now) };
@@ -49,4 +40,13 @@ pub trait Machine {
     // The row at a place, or the row of zeros where none stands.
     fn row(&self, place: usize) -> Row
         ensures { result ≡ slice_index_or (lists self.now).rows place zero_row };
+
+    // the lists are those that the layout defines
+    ghost laid: { (m : Self) → lists m ≡ layout (shown m) };
+
+    // at most 256 starts, 256 accepting states and 1,024 rows
+    ghost few: { (m : Self) → Few (lists m) };
+
+    // every state, letter, symbol and word keeps its limits
+    ghost limits: { (m : Self) → Limits (lists m) };
 }

@@ -3,7 +3,7 @@ ghost use Rattle.std.specs.Prelude.{◌≡◌};
 ghost use Rattle.machine.specs.Rows.{padded, lawful_word, lawful_row};
 
 // A word of stack symbols, the first nearest the top. The symbols from `len` on are 0.
-#[derive(Clone, Copy, Debug)]
+#[derive(Clone, Copy, PartialEq, Eq, Debug)]
 pub struct Word {
     pub len: u8,
     pub symbols: [u8; 10],
@@ -11,7 +11,7 @@ pub struct Word {
 
 // In state `from`, with `popped` on top of the stack, the row reads `letter` (0: nothing),
 // puts `pushed` in place of `popped` and goes to state `to`.
-#[derive(Clone, Copy, Debug)]
+#[derive(Clone, Copy, PartialEq, Eq, Debug)]
 pub struct Row {
     pub from: u8,
     pub letter: u8,
@@ -24,20 +24,10 @@ pub struct Row {
 fn is_padded(len: u8, bytes: &[u8]) -> bool
     ensures { result ≡ padded len bytes.now }
 {
-    let mut left = len;
-    for b in bytes {
-        if left == 0 {
-            if *b != 0 {
-                return false;
-            }
-        } else {
-            if *b == 0 {
-                return false;
-            }
-            left -= 1;
-        }
+    match bytes.split_at_checked(usize::from(len)) {
+        Some((word, rest)) => word.iter().all(|b| *b != 0) && rest.iter().all(|b| *b == 0),
+        None => false,
     }
-    left == 0
 }
 
 impl Word {

@@ -4,7 +4,7 @@ ghost use Rattle.machine.specs.Lists.{Lists};
 ghost use Rattle.tables.specs.Tables.{open_table, lists_of, LawfulTable, encode_table, TableLaws};
 
 use crate::table::Table;
-use entries::file::read_file;
+use entries::file::{File, read_file};
 use entries::sizes::Sizes;
 use machine::fault::Fault;
 use machine::row::Row;
@@ -14,6 +14,12 @@ const MOST_STARTS: usize = 256;
 const MOST_ACCEPTS: usize = 256;
 
 const MOST_ROWS: usize = 1024;
+
+const MOST: Sizes = Sizes {
+    first: MOST_STARTS,
+    second: MOST_ACCEPTS,
+    third: MOST_ROWS,
+};
 
 // The header of three counts, and the largest sections.
 const LONGEST: usize = 6 + MOST_STARTS + MOST_ACCEPTS + 25 * MOST_ROWS;
@@ -27,11 +33,9 @@ impl<'a> Table<'a> {
     {
         Table {
             bytes: &NO_ENTRIES,
-            sizes: Sizes {
-                first: 0,
-                second: 0,
-                third: 0,
-            },
+            starts: &[],
+            accepts: &[],
+            rows: &[],
         }
     }
 
@@ -41,8 +45,7 @@ impl<'a> Table<'a> {
         ensures encoding { OnOk result (LawfulTable (lists_of bytes.now) × (bytes.now ≡ encode_table (lists_of bytes.now))) }
         ensures laws { TableLaws }
     {
-        let sizes = read_file::<u8, u8, Row>(bytes, MOST_STARTS, MOST_ACCEPTS, MOST_ROWS)?;
-        *self = Table { bytes, sizes };
+        *self = Table::try_from(bytes)?;
         Ok(())
     }
 
@@ -51,6 +54,27 @@ impl<'a> Table<'a> {
         ensures { result.now ≡ self.now.bytes.now }
     {
         self.bytes
+    }
+}
+
+// The view of the bytes, or the first fault.
+impl<'a> TryFrom<&'a [u8]> for Table<'a> {
+    type Error = Fault;
+
+    ghost try_from_gives = { λ bytes r. MatchResult r (λ t. (open_table bytes.now ≡ Ok (lists_of bytes.now)) × (t.bytes ≡ bytes)) (λ f. open_table bytes.now ≡ Err f) };
+
+    fn try_from(bytes: &'a [u8]) -> Result<Table<'a>, Fault> {
+        let File {
+            first: starts,
+            second: accepts,
+            third: rows,
+        } = read_file::<u8, u8, Row>(bytes, MOST)?;
+        Ok(Table {
+            bytes,
+            starts,
+            accepts,
+            rows,
+        })
     }
 }
 

@@ -1,49 +1,20 @@
 //! A table as a machine. Each answer is read off the bytes; the width takes one pass over them.
 ghost use Rattle.std.specs.Prelude.{◌≡◌, ℕ, slice_index, refl};
 ghost use Rattle.machine.specs.Lists.{Lists, Few, Limits, above, ends};
-ghost use Rattle.entries.specs.Rows.{row_bytes};
-ghost use Rattle.entries.specs.Sections.{joined};
 ghost use Rattle.tables.specs.Tables.{lists_of};
 ghost use Rattle.tables.specs.Facts.{few_of, limits_of};
 
 use crate::table::Table;
+use entries::entry::Entry;
 use entries::section::entry_in;
 use machine::machine::Machine;
 use machine::row::Row;
 
-impl Table<'_> {
-    // The bytes of the starts, which are the starts.
-    fn start_bytes(&self) -> &[u8]
-        ensures { result.now ≡ (lists_of self.now.bytes.now).starts }
-    {
-        let end = 2 + self.sizes.first;
-        &self.bytes[2..end]
-    }
-
-    fn accept_bytes(&self) -> &[u8]
-        ensures { result.now ≡ (lists_of self.now.bytes.now).accepts }
-    {
-        let begin = 4 + self.sizes.first;
-        let end = begin + self.sizes.second;
-        &self.bytes[begin..end]
-    }
-
-    fn row_bytes(&self) -> &[u8]
-        ensures { result.now ≡ joined row_bytes (lists_of self.now.bytes.now).rows }
-    {
-        let begin = 6 + self.sizes.first + self.sizes.second;
-        &self.bytes[begin..]
-    }
-}
-
+// The state at a place, or 0 where none stands.
 fn state_at(states: &[u8], place: usize) -> u8
     ensures { result ≡ slice_index states.now place }
 {
-    if place < states.len() {
-        states[place]
-    } else {
-        0
-    }
+    states.get(place).copied().unwrap_or(0)
 }
 
 // One more than the largest of the states, or 0 where there is none.
@@ -66,14 +37,14 @@ impl Machine for Table<'_> {
 
     ghost laid = { λ t. refl };
 
-    ghost few = { λ t. few_of t.bytes.now t.sizes t.lawful };
+    ghost few = { λ t. few_of t.bytes.now t.starts.now t.accepts.now t.rows.now t.lawful };
 
-    ghost limits = { λ t. limits_of t.bytes.now t.sizes t.lawful };
+    ghost limits = { λ t. limits_of t.bytes.now t.starts.now t.accepts.now t.rows.now t.lawful };
 
     fn width(&self) -> usize {
-        let states = above_states(self.start_bytes()).max(above_states(self.accept_bytes()));
+        let states = above_states(self.starts).max(above_states(self.accepts));
         let mut width = states;
-        for place in 0..self.sizes.third {
+        for place in 0..self.row_count() {
             let row = self.row(place);
             width = width
                 .max(usize::from(row.from) + 1)
@@ -83,26 +54,26 @@ impl Machine for Table<'_> {
     }
 
     fn start_count(&self) -> usize {
-        self.sizes.first
+        self.starts.len()
     }
 
     fn start(&self, place: usize) -> u8 {
-        state_at(self.start_bytes(), place)
+        state_at(self.starts, place)
     }
 
     fn accept_count(&self) -> usize {
-        self.sizes.second
+        self.accepts.len()
     }
 
     fn accept(&self, place: usize) -> u8 {
-        state_at(self.accept_bytes(), place)
+        state_at(self.accepts, place)
     }
 
     fn row_count(&self) -> usize {
-        self.sizes.third
+        self.rows.len() / Row::width()
     }
 
     fn row(&self, place: usize) -> Row {
-        entry_in(self.row_bytes(), place).unwrap_or(Row::ZERO)
+        entry_in(self.rows, place).unwrap_or(Row::ZERO)
     }
 }

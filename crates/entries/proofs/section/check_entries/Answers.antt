@@ -1,9 +1,8 @@
-use Rattle.std.proofs.Common.{◌≡◌, ◌-◌, true, None, Ok, Err, sym, ap, ◌∙◌, arith}
+use Rattle.std.proofs.Common.{◌≡◌, ◌-◌, None, Ok, Err, sym, ap, ◌∙◌, arith}
 use Rattle.std.proofs.lemmas.Result.{err_from_is_err_and}
-use Rattle.entries.specs.Sections.{read_entries, follows}
+use Rattle.entries.specs.Sections.{read_entries}
 use Rattle.entries.proofs.Sections.{stops, breaks, next, taken}
 use Rattle.entries.proofs.section.check_entries.Goals as goal
-use Rattle.entries.proofs.section.check_entries.Goals.{in-Some+else-not-is_below, in_default}
 
 pub returns-in_err-entry : goal.returns-in_err-entry
 returns-in_err-entry g c =
@@ -14,24 +13,18 @@ returns-in_err-entry g c =
       ascends = tt;
     })
 
-pub returns-then-not-is_below : goal.returns-then-not-is_below
-returns-then-not-is_below g c =
+pub returns-then-not-follows : goal.returns-then-not-follows
+returns-then-not-follows g c =
     let e = g.T.Entry.sort in
-    let f = sym c.if-not-is_below.ensures in
     record {
-      outcome = sym c.loop-place.invariant ∙ breaks e c.args.section c.loop-place.place c.loop-place.last (c.args.count - c.loop-place.place) c.loop-place.rest.now (omega arith) c.in_ok-entry.entry (sym c.in_ok-entry.ensures) (rw c.in-Some.is f) ∙ ap Err (sym c.at.ensures);
+      outcome = sym c.loop-place.invariant ∙ breaks e c.args.section c.loop-place.place c.loop-place.last (c.args.count - c.loop-place.place) c.loop-place.rest.now (omega arith) c.in_ok-entry.entry (sym c.in_ok-entry.ensures) (sym c.if-not-follows.ensures) ∙ ap Err (sym c.at.ensures);
       ascends = tt;
     }
 
 pub loop-place-preserved : goal.loop-place-preserved
 loop-place-preserved g c =
     let e = g.T.Entry.sort in
-    let t : follows e c.loop-place.last c.in_ok-entry.entry ≡ true =
-    elim c.match-last.branch [
-      | in-Some+else-not-is_below w ↦ rw w.in-Some.is (sym w.if-not-is_below.ensures)
-      | in_default w ↦ rw w.in_default.is
-    ] in
-    next e c.args.section c.loop-place.place c.args.count c.width-width.result c.loop-place.last c.loop-place.rest.now c.in_ok-entry.entry _ c.width-width.ensures c.loop-place-test.true (sym c.in_ok-entry.ensures) t c.loop-place.invariant
+    next e c.args.section c.loop-place.place c.args.count c.width-width.result c.loop-place.last c.loop-place.rest.now c.in_ok-entry.entry _ c.width-width.ensures c.loop-place-test.true (sym c.in_ok-entry.ensures) (sym c.if-not-follows.ensures) c.loop-place.invariant
 
 pub returns : goal.returns
 returns g c =

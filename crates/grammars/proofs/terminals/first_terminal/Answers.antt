@@ -1,16 +1,11 @@
-use Rattle.std.proofs.Common.{true, false, sym, ◌∙◌}
-use Rattle.grammars.proofs.Lookups.{one, ended}
+use Rattle.std.proofs.Common.{◌∙◌, rules, tests}
+use Rattle.std.proofs.lemmas.Iterator.{YieldsList-from_slice}
+use Rattle.std.proofs.lemmas.Iterator.Search.{position_from_yields_List}
+use Rattle.grammars.specs.Grammars.{is_among}
+use Rattle.grammars.proofs.Lookups.{first_place}
 use Rattle.grammars.proofs.terminals.first_terminal.Goals as goal
 
-pub returns-then-is_terminal : goal.returns-then-is_terminal
-returns-then-is_terminal c =
-    sym (one c.args.terminals.now c.args.symbols.now c.loop-place.place c.loop-place-test.true true c.if-is_terminal.ensures)
-    ∙ c.loop-place.invariant
-
-pub loop-place-preserved : goal.loop-place-preserved
-loop-place-preserved c =
-    sym (one c.args.terminals.now c.args.symbols.now c.loop-place.place c.loop-place-test.true false c.if-is_terminal.ensures)
-    ∙ c.loop-place.invariant
-
 pub returns : goal.returns
-returns c = sym (ended c.args.terminals.now c.args.symbols.now c.loop-place.place c.loop-place-test.false) ∙ c.loop-place.invariant
+returns c =
+    position_from_yields_List (λ s. is_among s c.args.terminals.now) _ _ c.position.result c.position.ensures.ran (YieldsList-from_slice c.args.symbols.now cc) (λ x b q k. search (rules, tests))
+    ∙ first_place c.args.terminals.now c.args.symbols.now

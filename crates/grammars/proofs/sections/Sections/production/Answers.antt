@@ -12,5 +12,5 @@ returns c =
     let t = c.args.self.now in
     c.unwrap_or.ensures
     ∙ ap (λ o. unwrap_or o zero_production) c.entry_in.ensures
-    ∙ ap (λ bs. unwrap_or (entry_at productions (drop (12 * c.args.place) bs)) zero_production) c.production_bytes.ensures
+    ∙ ap (λ bs. unwrap_or (entry_at productions (drop (12 * c.args.place) bs)) zero_production) (places t).productions
     ∙ stands productions productions_laws (read_lists t.bytes.now).productions c.args.place zero_production (places t).limits
