@@ -1,7 +1,7 @@
 pub mod Puts
 pub mod Ascents
 pub mod Histories
+pub mod Calls
 pub mod Finishing
 pub mod Batches
-pub mod Calls
 pub mod Wholes

@@ -1,19 +1,15 @@
 -- Bytes put into an output, one after the other.
-use Rattle.std.proofs.Common.{◌≡◌, ℕ, ◌+◌, ◌≤◌, List, [], ◌++◌, length, take, drop, sym, refl, ap, ◌∙◌, ap₂, arith}
+use Rattle.std.proofs.Common.{◌≡◌, ℕ, ◌+◌, add-zero, length-take, ◌≤◌, List, [], ◌++◌, length, take, drop, sym, refl, ap, ◌∙◌, arith}
 use Rattle.std.proofs.lemmas.List.{append_assoc, length-append, length-take-le, length-drop, take-append-drop, take-append-le, take-take, drop_at}
 use Rattle.std.proofs.lemmas.List.Edits.{paste_all, paste-paste}
 use lib.Seq.{paste}
 use Rattle.entries.specs.Outputs.{put_at}
 
 pub put_none : (l : List ℕ) (a : ℕ) → put_at l a [] ≡ l
-put_none l a = let e : a + 0 ≡ a = omega arith in ap (λ n. take a l ++ drop n l) e ∙ take-append-drop a l
+put_none l a = rw add-zero (take-append-drop a l)
 
 pub put_length : (l : List ℕ) (a : ℕ) (bs : List ℕ) → a + length bs ≤ length l → length (put_at l a bs) ≡ length l
-put_length l a bs h =
-    let i : a ≤ length l = omega arith in
-    let t = length-take-le a l i in
-    let d = length-drop (a + length bs) l in
-    simp length-append (omega arith)
+put_length l a bs h = simp (length-append, length-take, length-drop) (omega arith)
 
 -- more bytes, right behind those that were put
 pub put_behind : (l : List ℕ) (a : ℕ) (bs cs : List ℕ) → a ≤ length l → put_at (put_at l a bs) (a + length bs) cs ≡ put_at l a (bs ++ cs)
@@ -38,5 +34,4 @@ put_before l a bs cs h =
     let front : take a (take b l ++ (cs ++ d)) ≡ take a l = take-append-le a (take b l) (cs ++ d) i ∙ take-take a b l j in
     let back : drop b (take b l ++ (cs ++ d)) ≡ cs ++ d = drop_at (take b l) (cs ++ d) b t in
     let n : b + length cs ≡ a + length (bs ++ cs) = simp length-append (omega arith) in
-    ap₂ {C = List ℕ} (λ x y. x ++ (bs ++ y)) front back
-    ∙ ap (λ x. take a l ++ x) (sym (append_assoc bs cs d) ∙ ap (λ k. (bs ++ cs) ++ drop k l) n)
+    rw (front, back, n, ← append_assoc bs cs) refl

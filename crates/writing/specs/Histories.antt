@@ -10,25 +10,22 @@ use Rattle.entries.specs.Rows.{rows}
 use Rattle.entries.specs.Sections.{Lawful, joined, section_bytes}
 use Rattle.entries.specs.Outputs.{put_at}
 use Rattle.tables.specs.Tables.{LawfulTable, encode_table}
-use Rattle.writing.specs.declared.stage.Kind.{Kind}
-use Rattle.writing.specs.declared.stage.Stage.{Stage}
-use Rattle.writing.specs.declared.stages.StartsStage.{StartsStage}
-use Rattle.writing.specs.declared.stages.AcceptsStage.{AcceptsStage}
-use Rattle.writing.specs.declared.stages.RowsStage.{RowsStage}
-use Rattle.writing.specs.Stages.{starts_kind, accepts_kind, rows_kind}
+use Rattle.writing.specs.declared.section.Kind.{Kind}
+use Rattle.writing.specs.Parts.{Part, no_entries, with_more, starts_kind, accepts_kind, rows_kind, starts_part, accepts_part, rows_part}
+use Rattle.writing.specs.Stages.{Progress}
 
 abbrev pub last_of : {X : Type 0} → List X → Option X
 last_of [] = None
 last_of (x ∷ []) = Some x
 last_of (x ∷ y ∷ ys) = last_of (y ∷ ys)
 
--- The accepted entries after a put, by its answer.
-abbrev pub after_put : {X : Type 0} → List X → X → Result Unit Fault → List X
-after_put xs x (Ok _) = xs ++ x ∷ []
-after_put xs x (Err f) = xs
+-- The table after a put, by its answer.
+abbrev pub after_put : {X : Type 0} → Part X → Lists → X → Result Unit Fault → Lists
+after_put p m x (Ok _) = with_more p m x
+after_put p m x (Err f) = m
 
 -- A section is being written behind sections that are done, whose bytes are given, and exactly the entries xs were accepted.
-pub record Writing {X : Type 0} (e : Sort X) (k : Kind) (old done : List ℕ) (xs : List X) (s : Stage X) (out : List ℕ) : Type 0 where
+pub record Writing {X : Type 0} (e : Sort X) (k : Kind) (old done : List ℕ) (xs : List X) (s : Progress X) (out : List ℕ) : Type 0 where
   -- the stage and the entries agree
   pub lawful : Lawful e k.most xs
   pub begin : s.begin ≡ length done
@@ -41,25 +38,23 @@ pub record Writing {X : Type 0} (e : Sort X) (k : Kind) (old done : List ℕ) (x
   -- an output that is too short for three counts stays as it is, and takes no entry
   pub short : length old < 6 → (xs ≡ []) × (out ≡ old)
 
--- Exactly the starts ss were accepted so far.
-abbrev pub WritingStarts : List ℕ → List ℕ → StartsStage → List ℕ → Type 0
-WritingStarts old ss s out = Writing states starts_kind old [] ss s.stage out
+-- A table is being written, and exactly the entries of m were accepted: those of the earlier sections, which are done, and of this one so far.
+pub record WritingTable {X : Type 0} (e : Sort X) (k : Kind) (p : Part X) (old : List ℕ) (m : Lists) (s : Progress X) (out : List ℕ) : Type 0 where
+  pub lawful : LawfulTable m
+  -- the later sections have no entries
+  pub up_to : m ≡ p.with_entries m (p.entries m)
+  pub none : length old < 6 → m ≡ no_entries
+  pub section : Writing e k old (p.before m) (p.entries m) s out
 
--- Exactly the starts ss, and the accepting states fs so far.
-pub record WritingAccepts (old ss fs : List ℕ) (s : AcceptsStage) (out : List ℕ) : Type 0 where
-  pub starts : Lawful states 256 ss
-  pub none : length old < 6 → ss ≡ []
-  pub accepts : Writing states accepts_kind old (section_bytes states ss) fs s.stage out
+-- Each section as it is written: the starts, then the accepting states, then the rows.
+abbrev pub WritingStarts : List ℕ → Lists → Progress ℕ → List ℕ → Type 0
+WritingStarts = WritingTable states starts_kind starts_part
 
--- Exactly the starts ss and the accepting states fs, and the rows rs so far.
-pub record WritingRows (old ss fs : List ℕ) (rs : List Row) (s : RowsStage) (out : List ℕ) : Type 0 where
-  pub starts : Lawful states 256 ss
-  pub accepts : Lawful states 256 fs
-  pub none : length old < 6 → (ss ≡ []) × (fs ≡ [])
-  pub rows : Writing rows rows_kind old (section_bytes states ss ++ section_bytes states fs) rs s.stage out
+abbrev pub WritingAccepts : List ℕ → Lists → Progress ℕ → List ℕ → Type 0
+WritingAccepts = WritingTable states accepts_kind accepts_part
 
-abbrev pub table_of : List ℕ → List ℕ → List Row → Lists
-table_of ss fs rs = record { starts = ss; accepts = fs; rows = rs }
+abbrev pub WritingRows : List ℕ → Lists → Progress Row → List ℕ → Type 0
+WritingRows = WritingTable rows rows_kind rows_part
 
 -- The table m was written: its encoding stands in front of what the output held, and n is its number of bytes.
 -- Into an output that is too short for three counts nothing was written, and m has no entries.
@@ -67,4 +62,4 @@ pub record Finished (old : List ℕ) (m : Lists) (out : List ℕ) (n : ℕ) : Ty
   pub lawful : LawfulTable m
   pub size : 6 ≤ length old → n ≡ length (encode_table m)
   pub bytes : 6 ≤ length old → out ≡ encode_table m ++ drop n old
-  pub short : length old < 6 → (n ≡ 0) × (out ≡ old) × (m ≡ table_of [] [] [])
+  pub short : length old < 6 → (n ≡ 0) × (out ≡ old) × (m ≡ no_entries)

@@ -1,3 +1,5 @@
+pub mod Parts
+pub mod PartFacts
 pub mod Stages
 pub mod Histories
 pub mod Wholes

@@ -1,26 +1,39 @@
-//! The three stages of writing a table, one for each section. A stage holds no reference: the output goes beside it.
-ghost use Rattle.std.specs.Prelude.{◌≡◌, ◌≤◌};
+//! The three stages of writing a table, one for each section: how the first begins, and how the last ends.
+ghost use Rattle.std.specs.Prelude.{◌≡◌, ℕ, ◌≤◌, List, length, take, if◌then◌else◌};
+ghost use Rattle.machine.specs.Lists.{Lists};
+ghost use Rattle.entries.specs.Rows.{rows};
+ghost use Rattle.tables.specs.Tables.{open_table};
+ghost use Rattle.writing.specs.Parts.{rows_kind, no_entries};
+ghost use Rattle.writing.specs.Stages.{fresh, end_of, count_fits, closed};
+ghost use Rattle.writing.specs.Histories.{WritingStarts, WritingRows, Finished};
 
+use crate::section::{Accepts, Rows, Starts};
 use crate::stage::Stage;
-use machine::row::Row;
 
-#[derive(Drop)]
-pub struct StartsStage {
-    pub(crate) stage: Stage<u8>,
-    ghost begins: { stage.begin ≡ 0 },
-    ghost few: { stage.count ≤ 256 },
+pub type StartsStage = Stage<Starts>;
+
+pub type AcceptsStage = Stage<Accepts>;
+
+pub type RowsStage = Stage<Rows>;
+
+impl StartsStage {
+    // The stage that every table begins with. Nothing is written yet.
+    pub fn begin() -> StartsStage
+        ensures stage { result ≡ fresh 0 }
+        ensures history { (old : List ℕ) → WritingStarts old no_entries result old }
+    {
+        Stage::fresh(0)
+    }
 }
 
-#[derive(Drop)]
-pub struct AcceptsStage {
-    pub(crate) stage: Stage<u8>,
-    ghost begins: { stage.begin ≤ 258 },
-    ghost few: { stage.count ≤ 256 },
-}
-
-#[derive(Drop)]
-pub struct RowsStage {
-    pub(crate) stage: Stage<Row>,
-    ghost begins: { stage.begin ≤ 516 },
-    ghost few: { stage.count ≤ 1024 },
+impl RowsStage {
+    // Writes the count of the rows. The answer is the number of the table's bytes, or 0 where the output was too short.
+    pub fn finish(self, out: &mut [u8]) -> usize
+        ensures written { out.new ≡ closed rows_kind self out.old }
+        ensures size { result ≡ (if count_fits rows_kind self (length out.old) then end_of rows self else 0) }
+        ensures history { (old : List ℕ) (m : Lists) → WritingRows old m self out.old → Finished old m out.new result }
+        ensures opens { (old : List ℕ) (m : Lists) → WritingRows old m self out.old → 6 ≤ length old → open_table (take result out.new) ≡ Ok m }
+    {
+        if self.close(out) { self.end() } else { 0 }
+    }
 }

@@ -1,7 +1,7 @@
 //! Writing a whole table from its lists: every entry is put, in order.
 ghost use Rattle.std.specs.Prelude.{◌≡◌, ◌≤◌, true, length, is_ok, MatchResult};
 ghost use Rattle.tables.specs.Tables.{LawfulTable, encode_table};
-ghost use Rattle.writing.specs.Histories.{table_of};
+ghost use Rattle.writing.specs.Parts.{table_of};
 ghost use Rattle.writing.specs.Wholes.{Written, Unwritten};
 
 use crate::stages::StartsStage;
@@ -24,9 +24,9 @@ pub fn write_table(
     stage.put_all(out, accepts)?;
     let mut stage = stage.next(out);
     stage.put_all(out, rows)?;
-    let size = stage.finish(out);
-    if size == 0 {
-        return Err(Rule::Output.at(0, 0));
+    match stage.finish(out) {
+        // the output is too short for three counts
+        0 => Err(Rule::Output.at(0, 0)),
+        size => Ok(size),
     }
-    Ok(size)
 }

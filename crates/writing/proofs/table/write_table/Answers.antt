@@ -1,6 +1,7 @@
 use Rattle.std.proofs.Common.{refl, arith}
 use Rattle.std.proofs.lemmas.Result.{err_from_is_err_and}
-use Rattle.writing.proofs.Wholes.{long_enough, nothing, never_nothing, within}
+use Rattle.writing.specs.Wholes.Unwritten.{in_starts, in_accepts, in_rows}
+use Rattle.writing.proofs.Wholes.{starts_fit, accepts_fit, long_enough, nothing, never_nothing, within}
 use Rattle.writing.proofs.table.write_table.Goals as goal
 
 pub returns-in_err-put_all : goal.returns-in_err-put_all
@@ -9,53 +10,53 @@ returns-in_err-put_all c =
     let b = c.in_err-put_all.ensures in
     let p = err_from_is_err_and c.from_residual.result c.from_residual.ensures.1 in
     rw (p.1, p.2) (record {
-      outcome = b.outcome _ w c.args.accepts.now c.args.rows.now;
-      welcome = b.welcome _ w c.args.accepts.now c.args.rows.now;
+      outcome = in_starts (b.outcome _ _ w refl);
+      welcome = λ l n. b.welcome _ _ w refl l.starts (starts_fit _ _ _ _ n);
     })
 
 pub returns-in_err-put_all-2 : goal.returns-in_err-put_all-2
 returns-in_err-put_all-2 c =
     let w = c.begin-stage.ensures.history c.args.out.now in
-    let v = c.next-stage.ensures.history _ _ (c.in_ok-put_all.ensures.outcome _ w) in
+    let v = c.next-stage.ensures.history _ _ (c.in_ok-put_all.ensures.outcome _ _ w refl) in
     let b = c.in_err-put_all-2.ensures in
     let p = err_from_is_err_and c.from_residual-in_err-put_all-2.result c.from_residual-in_err-put_all-2.ensures.1 in
     rw (p.1, p.2) (record {
-      outcome = b.outcome _ _ v c.args.rows.now;
-      welcome = b.welcome _ _ v c.args.rows.now;
+      outcome = in_accepts v.lawful.starts (b.outcome _ _ v refl);
+      welcome = λ l n. b.welcome _ _ v refl l.accepts (accepts_fit _ _ _ _ n);
     })
 
 pub returns-in_err-put_all-3 : goal.returns-in_err-put_all-3
 returns-in_err-put_all-3 c =
     let w = c.begin-stage.ensures.history c.args.out.now in
-    let v = c.next-stage.ensures.history _ _ (c.in_ok-put_all.ensures.outcome _ w) in
-    let u = c.next-stage-2.ensures.history _ _ _ (c.in_ok-put_all-2.ensures.outcome _ _ v) in
+    let v = c.next-stage.ensures.history _ _ (c.in_ok-put_all.ensures.outcome _ _ w refl) in
+    let u = c.next-stage-2.ensures.history _ _ (c.in_ok-put_all-2.ensures.outcome _ _ v refl) in
     let b = c.in_err-put_all-3.ensures in
     let p = err_from_is_err_and c.from_residual-in_err-put_all-3.result c.from_residual-in_err-put_all-3.ensures.1 in
     rw (p.1, p.2) (record {
-      outcome = b.outcome _ _ _ u;
-      welcome = b.welcome _ _ _ u;
+      outcome = in_rows u.lawful.starts u.lawful.accepts (b.outcome _ _ u refl);
+      welcome = λ l n. b.welcome _ _ u refl l.rows n;
     })
 
-pub returns-then-size-eq0 : goal.returns-then-size-eq0
-returns-then-size-eq0 c =
+pub returns-in-0 : goal.returns-in-0
+returns-in-0 c =
     let w = c.begin-stage.ensures.history c.args.out.now in
-    let v = c.next-stage.ensures.history _ _ (c.in_ok-put_all.ensures.outcome _ w) in
-    let u = c.next-stage-2.ensures.history _ _ _ (c.in_ok-put_all-2.ensures.outcome _ _ v) in
-    let t = c.finish-size.ensures.history _ _ _ _ (c.in_ok-put_all-3.ensures.outcome _ _ _ u) in
+    let v = c.next-stage.ensures.history _ _ (c.in_ok-put_all.ensures.outcome _ _ w refl) in
+    let u = c.next-stage-2.ensures.history _ _ (c.in_ok-put_all-2.ensures.outcome _ _ v refl) in
+    let t = c.finish.ensures.history _ _ (c.in_ok-put_all-3.ensures.outcome _ _ u refl) in
     record {
-      outcome = nothing _ _ _ _ _ _ t (omega arith) _ c.at.ensures;
-      welcome = λ l n. absurd (never_nothing _ _ _ _ _ _ t (omega arith) n);
+      outcome = nothing _ _ _ _ t c.in-0.is _ c.at.ensures;
+      welcome = λ l n. absurd (never_nothing _ _ _ _ t c.in-0.is n);
     }
 
-pub returns : goal.returns
-returns c =
+pub returns-in_default : goal.returns-in_default
+returns-in_default c =
     let w = c.begin-stage.ensures.history c.args.out.now in
-    let v = c.next-stage.ensures.history _ _ (c.in_ok-put_all.ensures.outcome _ w) in
-    let u = c.next-stage-2.ensures.history _ _ _ (c.in_ok-put_all-2.ensures.outcome _ _ v) in
-    let r = c.in_ok-put_all-3.ensures.outcome _ _ _ u in
-    let t = c.finish-size.ensures.history _ _ _ _ r in
-    let g = long_enough _ _ _ _ _ _ t (omega arith) in
+    let v = c.next-stage.ensures.history _ _ (c.in_ok-put_all.ensures.outcome _ _ w refl) in
+    let u = c.next-stage-2.ensures.history _ _ (c.in_ok-put_all-2.ensures.outcome _ _ v refl) in
+    let r = c.in_ok-put_all-3.ensures.outcome _ _ u refl in
+    let t = c.finish.ensures.history _ _ r in
+    let g = long_enough _ _ _ _ t (omega arith) in
     record {
-      outcome = record { long = g; fits = within _ _ _ _ _ _ _ _ r t g; finished = t; opens = c.finish-size.ensures.opens _ _ _ _ r g };
+      outcome = record { long = g; fits = within _ _ _ _ t _ _ r g; finished = t; opens = c.finish.ensures.opens _ _ r g };
       welcome = λ l n. refl;
     }

@@ -1,15 +1,10 @@
+use Rattle.std.proofs.Common.{rules}
 use Rattle.entries.proofs.Files.{typed}
 use Rattle.writing.proofs.Finishing.{finished, opens}
 use Rattle.writing.proofs.stages.RowsStage.finish.Goals as goal
 
-pub returns : goal.returns
-returns c =
-    let by = c.finish.ensures.written in
-    let n = c.finish.ensures.size in
-    let b = typed c.finish.new.out (λ i. (c.type_inv.out i).fits) in
-    record {
-      written = by;
-      size = n;
-      history = λ old ss fs rs w. finished old ss fs rs _ _ _ _ w by n;
-      opens = λ old ss fs rs w. opens old ss fs rs _ _ _ _ w by n b;
-    }
+pub returns-then-close-clause-history : goal.returns-then-close-clause-history
+returns-then-close-clause-history c = λ old m w. finished old m _ _ _ _ w (search rules) (search rules)
+
+pub returns-then-close-clause-opens : goal.returns-then-close-clause-opens
+returns-then-close-clause-opens c = λ old m w. opens old m _ _ _ _ w (search rules) (search rules) (typed c.close.new.out (λ i. (c.type_inv.out i).fits))
