@@ -28,12 +28,13 @@ fn byte(high: u8, low: u8) -> Option<u8>
 pub fn decoded(heap: Global, digits: &[u8]) -> Result<Option<Vec<u8>>, AllocError>
     ensures { IfOk result (λ o. option_map vec_items o ≡ bytes_of digits.now) }
 {
-    if digits.len() % 2 != 0 {
+    let (pairs, alone) = digits.as_chunks::<2>();
+    if !alone.is_empty() {
         return Ok(None);
     }
     let mut bytes = Vec::new(heap);
-    for place in 0..digits.len() / 2 {
-        let Some(next) = byte(digits[2 * place], digits[2 * place + 1]) else {
+    for [high, low] in pairs {
+        let Some(next) = byte(*high, *low) else {
             return Ok(None);
         };
         bytes.push(next)?;

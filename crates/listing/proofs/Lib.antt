@@ -1,6 +1,5 @@
 -- The lemmas that several functions share.
 pub mod Placing
-pub mod Sizes
-pub mod Joins
+pub mod Adding
 pub mod Examples
 pub mod Listed

@@ -1,17 +1,13 @@
--- An output that the listing fills, and the text of marks that were set.
-use Rattle.std.proofs.Common.{◌≡◌, ℕ, ◌+◌, List, ◌++◌, length, take, None, Option, sym, ap, ◌∙◌, subst, ap₂, arith, MatchOption}
-use Rattle.std.proofs.lemmas.List.{append-nil, drop_all, take_all}
+-- The text of marks that were set.
+use Rattle.std.proofs.Common.{◌≡◌, ℕ, List, length, take, None, Option, sym, ◌∙◌, subst, ap₂, arith, MatchOption}
+use Rattle.std.proofs.lemmas.List.{take_all}
 use Rattle.machine.specs.declared.fault.Fault.{Fault}
 use Rattle.machine.specs.Lists.{Lists}
 use Rattle.marking.specs.declared.counts.Counts.{Counts}
 use Rattle.marking.specs.Marks.{refusal, counts_of, Sets}
 use Rattle.reports.specs.Texts.{fault_text}
-use Rattle.listing.specs.Listings.{summed_text, Puts}
+use Rattle.listing.specs.Listings.{summed_text}
 use Rattle.listing.specs.Texts.{IsListing, MarksText}
-
-pub filled : {text old new : List ℕ} {n : ℕ} → Puts text 0 old new n → length old ≡ length text → new ≡ text
-filled {text} {old} p h =
-    p.after ∙ ap (λ x. text ++ x) (drop_all (0 + length text) old (omega arith)) ∙ append-nil text
 
 pub set_text : (m : Lists) (scratch : List ℕ) {words : ℕ} {counts : Counts} {marks marks' listed text : List ℕ}
     → refusal m (length scratch) (length marks) ≡ None → length scratch ≡ words → length marks ≡ length m.rows

@@ -1,9 +1,8 @@
 //! The listing of a machine's marks: a line for each row, and a line that sums them up.
 #![tactic(auto)]
 
-mod lengths;
-mod lines;
-mod numbers;
+mod draft;
 pub mod opened;
 pub mod output;
 pub mod texts;
+mod written;

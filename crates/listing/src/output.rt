@@ -3,8 +3,7 @@ ghost use Rattle.std.specs.Prelude.{◌≤◌, length};
 ghost use Rattle.listing.specs.Listings.{summed_text};
 ghost use Rattle.listing.specs.Outcomes.{Written, ListOutcome};
 
-use crate::lengths::listing_len;
-use crate::lines::put_listing;
+use crate::written::{listing_len, put_listing};
 use machine::fault::{Fault, Rule};
 use machine::machine::Machine;
 use marking::counts::Counts;

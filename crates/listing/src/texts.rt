@@ -4,8 +4,7 @@ ghost use Rattle.reports.specs.Texts.{fault_text};
 ghost use Rattle.listing.specs.Listings.{summed_text};
 ghost use Rattle.listing.specs.Texts.{IsListing, MarksText};
 
-use crate::lengths::listing_len;
-use crate::lines::put_listing;
+use crate::written::{listing_len, put_listing};
 use machine::fault::Fault;
 use machine::machine::Machine;
 use marking::counts::Counts;

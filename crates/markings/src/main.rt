@@ -4,23 +4,19 @@
 #![tactic(auto)]
 
 use hexadecimal::decoding::decoded;
-use listing::opened::{grammar_marks_text, table_marks_text};
+use listing::opened::file_marks_text;
 use std::alloc::{AllocError, Global};
 use std::io::{BufRead, BufReader};
 
 // The text for a line; none where it cannot be read.
 fn answer(heap: Global, line: &str) -> Result<Option<Vec<u8>>, AllocError> {
-    let Some((kind, digits)) = line.split_once(' ') else {
+    let Some((name, digits)) = line.split_once(' ') else {
         return Ok(None);
     };
-    let Some(bytes) = decoded(heap, digits.as_bytes())? else {
+    let (Ok(kind), Some(bytes)) = (name.parse(), decoded(heap, digits.as_bytes())?) else {
         return Ok(None);
     };
-    match kind {
-        "table" => Ok(Some(table_marks_text(heap, &bytes)?)),
-        "grammar" => Ok(Some(grammar_marks_text(heap, &bytes)?)),
-        _ => Ok(None),
-    }
+    Ok(Some(file_marks_text(heap, kind, &bytes)?))
 }
 
 fn run(rt: &HostRuntime) -> anyhow::Result<()> {

@@ -4,6 +4,7 @@
 //! All the lines are opened into one and the same view. tools/opening_cases.py makes the lines and the answers.
 #![tactic(auto)]
 
+use hexadecimal::decoding;
 use machine::fault::Fault;
 use machine::machine::Machine;
 use std::alloc::{AllocError, Global};
@@ -11,31 +12,9 @@ use std::io;
 use std::io::{BufRead, BufReader};
 use tables::table::Table;
 
-fn digit(character: u8) -> Option<u8> {
-    match character {
-        b'0'..=b'9' => Some(character - b'0'),
-        b'a'..=b'f' => Some(character - b'a' + 10),
-        _ => None,
-    }
-}
-
-fn byte(pair: &[u8]) -> Option<u8> {
-    match pair {
-        [high, low] => Some((digit(*high)? << 4) | digit(*low)?),
-        _ => None,
-    }
-}
-
 // The bytes that a line writes out; none where a digit is bad or the last one stands alone.
 fn decoded(heap: Global, line: &str) -> Result<Option<Vec<u8>>, AllocError> {
-    let mut bytes = Vec::new(heap);
-    for pair in line.as_bytes().chunks(2) {
-        let Some(next) = byte(pair) else {
-            return Ok(None);
-        };
-        bytes.push(next)?;
-    }
-    Ok(Some(bytes))
+    decoding::decoded(heap, line.as_bytes())
 }
 
 // All lines of the input, decoded: the view borrows their bytes.
@@ -56,12 +35,7 @@ fn tell(rt: &HostRuntime, table: &Table<'_>, outcome: Result<(), Fault>) -> io::
             let (rows, width) = (table.row_count(), table.width());
             println!(rt; "opens {starts} {accepts} {rows} {width}")
         }
-        Err(fault) => println!(rt;
-            "refused {} {} {}",
-            fault.rule.number(),
-            fault.section,
-            fault.place
-        ),
+        Err(fault) => println!(rt; "{fault}"),
     }
 }
 

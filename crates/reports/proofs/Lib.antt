@@ -1,4 +1,5 @@
 -- The lemmas that several functions share.
 pub mod Steps
+pub mod Collected
 pub mod Joins
 pub mod Examples

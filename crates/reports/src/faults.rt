@@ -9,11 +9,5 @@ use std::alloc::{AllocError, Global};
 pub fn fault_text(heap: Global, fault: Fault) -> Result<String, AllocError>
     ensures { IfOk result (λ t. string_bytes t ≡ fault_text fault) }
 {
-    let Fault {
-        rule,
-        section,
-        place,
-    } = fault;
-    let number = rule.number();
-    format!(in heap; "refused {number} {section} {place}\n")
+    format!(in heap; "{fault}\n")
 }

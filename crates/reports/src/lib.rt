@@ -2,8 +2,10 @@
 #![tactic(auto)]
 
 pub mod faults;
+pub mod inputs;
+pub mod kinds;
 pub mod machines;
+mod numbers;
 pub mod opened;
 mod rows;
-mod states;
-mod words;
+pub mod views;

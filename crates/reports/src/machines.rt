@@ -1,44 +1,38 @@
 //! The text of a machine: how much it has, its starts, its accepting states and its rows.
 ghost use Rattle.std.specs.Prelude.{◌≡◌, ◌++◌, IfOk, string_bytes, OnOk};
-ghost use Rattle.reports.specs.Texts.{counts_text, machine_text};
+ghost use Rattle.reports.specs.Texts.{rows_text, machine_text};
 
-use crate::rows::put_rows;
-use crate::states::{put_accepts, put_starts};
+use crate::numbers::Numbers;
+use crate::rows::PlacedRow;
 use machine::machine::Machine;
 use std::alloc::{AllocError, Global};
 
-// The first line, by which a reader knows how many of each to expect.
-fn put_counts<M: Machine>(text: &mut String, m: &M) -> Result<(), AllocError>
-    ensures { OnOk result (string_bytes text.new ≡ string_bytes text.old ++ counts_text (M.lists m.now)) }
+// Appends the lines of all rows, in the machine's order.
+fn put_rows<M: Machine>(text: &mut String, m: &M) -> Result<(), AllocError>
+    ensures { OnOk result (string_bytes text.new ≡ string_bytes text.old ++ rows_text 0 (M.lists m.now).rows) }
 {
-    let starts = m.start_count();
-    let accepting = m.accept_count();
-    let rows = m.row_count();
-    let width = m.width();
-    writeln!(
-        text,
-        "starts {starts} accepting {accepting} rows {rows} width {width}"
-    )
+    for place in 0..m.row_count() {
+        let row = m.row(place);
+        write!(text, "{}", PlacedRow { place, row })?;
+    }
+    Ok(())
 }
 
-// Appends the whole text; where that fails, nothing is said of what was appended so far.
-fn put_machine<M: Machine>(text: &mut String, m: &M) -> Result<(), AllocError>
-    ensures { OnOk result (string_bytes text.new ≡ string_bytes text.old ++ machine_text (M.lists m.now)) }
-{
-    put_counts(text, m)?;
-    write!(text, "start")?;
-    put_starts(text, m)?;
-    write!(text, "\naccept")?;
-    put_accepts(text, m)?;
-    writeln!(text)?;
-    put_rows(text, m)
-}
-
-// The whole text of a machine.
+// The whole text of a machine. The first line says how many of each to expect.
 pub fn machine_text<M: Machine>(heap: Global, m: &M) -> Result<String, AllocError>
     ensures { IfOk result (λ t. string_bytes t ≡ machine_text (M.lists m.now)) }
 {
+    let (starting, accepting) = (m.start_count(), m.accept_count());
+    let (rows, width) = (m.row_count(), m.width());
+    let starts: Vec<u8> = (0..starting).map(|place| m.start(place)).collect(heap)?;
+    let accepts: Vec<u8> = (0..accepting).map(|place| m.accept(place)).collect(heap)?;
     let mut text = String::new(heap);
-    put_machine(&mut text, m)?;
+    writeln!(
+        text,
+        "starts {starting} accepting {accepting} rows {rows} width {width}"
+    )?;
+    writeln!(text, "start{}", Numbers(&starts))?;
+    writeln!(text, "accept{}", Numbers(&accepts))?;
+    put_rows(&mut text, m)?;
     Ok(text)
 }

@@ -1,36 +1,45 @@
-//! The rows of a machine, a line for each.
-ghost use Rattle.std.specs.Prelude.{◌≡◌, ◌++◌, string_bytes, OnOk};
-ghost use Rattle.reports.specs.Texts.{row_text, rows_text};
+//! The line of a row.
+ghost use Rattle.std.specs.Prelude.{◌≡◌, Some};
+ghost use Rattle.machine.specs.Rows.{symbols_of};
+ghost use Rattle.reports.specs.Texts.{row_text};
 
-use crate::words::put_word;
-use machine::machine::Machine;
-use machine::row::Row;
-use std::alloc::AllocError;
+use crate::numbers::Numbers;
+use machine::row::{Row, Word};
+use std::fmt;
 
-// One line, with the place in front by which the machine is asked for the row.
-fn put_row(text: &mut String, place: usize, row: Row) -> Result<(), AllocError>
-    ensures { OnOk result (string_bytes text.new ≡ string_bytes text.old ++ row_text place row) }
-{
-    let Row {
-        from,
-        letter,
-        to,
-        popped,
-        pushed,
-    } = row;
-    write!(text, "row {place} from {from} letter {letter} to {to} pop")?;
-    put_word(text, popped)?;
-    write!(text, " push")?;
-    put_word(text, pushed)?;
-    writeln!(text)
+// A row, with the place by which the machine is asked for it.
+#[derive(Clone, Copy)]
+pub(crate) struct PlacedRow {
+    pub(crate) place: usize,
+    pub(crate) row: Row,
 }
 
-// The lines of all rows, in the machine's order.
-pub(crate) fn put_rows<M: Machine>(text: &mut String, m: &M) -> Result<(), AllocError>
-    ensures { OnOk result (string_bytes text.new ≡ string_bytes text.old ++ rows_text 0 (M.lists m.now).rows) }
+// The symbols of a word, the first nearest the top of the stack.
+fn symbols(word: &Word) -> &[u8]
+    ensures { result.now ≡ symbols_of word.now }
 {
-    for place in 0..m.row_count() {
-        put_row(text, place, m.row(place))?;
+    // a word has no more symbols than its array, whatever `len` says
+    let len = usize::from(word.len).min(word.symbols.len());
+    &word.symbols[..len]
+}
+
+impl fmt::Display for PlacedRow {
+    ghost output = { λ r. Some (row_text r.place r.row) };
+
+    fn fmt<W: fmt::Write>(&self, f: &mut fmt::Formatter<W>) -> fmt::Result {
+        let PlacedRow { place, row } = *self;
+        let Row {
+            from,
+            letter,
+            to,
+            popped,
+            pushed,
+        } = row;
+        let pop = Numbers(symbols(&popped));
+        let push = Numbers(symbols(&pushed));
+        writeln!(
+            f,
+            "row {place} from {from} letter {letter} to {to} pop{pop} push{push}"
+        )
     }
-    Ok(())
 }

@@ -3,14 +3,11 @@
 #![tactic(auto)]
 
 use listing::opened::rowmarks_text;
-use std::io::Read;
-use tables::open::enough_bytes;
+use reports::inputs::first_bytes;
+use reports::kinds::Kind;
 
 fn run(rt: &HostRuntime) -> anyhow::Result<()> {
-    let mut bytes = Vec::new(rt.alloc());
-    rt.stdin()
-        .take(enough_bytes() as u64)
-        .read_to_end(&mut bytes)?;
+    let bytes = first_bytes(rt.alloc(), rt.stdin(), Kind::Table.enough_bytes())?;
     let text = rowmarks_text(rt.alloc(), &bytes)?;
     rt.write_all(&text)?;
     Ok(())

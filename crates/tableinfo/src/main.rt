@@ -2,34 +2,20 @@
 //! It reads no more than decides, however long the input is.
 #![tactic(auto)]
 
-use anyhow::anyhow;
-use reports::opened::{grammar_text, table_text};
+use reports::inputs::first_bytes;
+use reports::kinds::Kind;
+use reports::opened::file_text;
 use std::env;
-use std::io::Read;
-
-// The first bytes of standard input, as many as decide.
-fn input(rt: &HostRuntime, enough: usize) -> anyhow::Result<Vec<u8>> {
-    let mut bytes = Vec::new(rt.alloc());
-    rt.stdin().take(enough as u64).read_to_end(&mut bytes)?;
-    Ok(bytes)
-}
-
-fn show(rt: &HostRuntime, kind: &str) -> anyhow::Result<()> {
-    let heap = rt.alloc();
-    let text = match kind {
-        "table" => table_text(heap, &input(rt, tables::open::enough_bytes())?)?,
-        "grammar" => grammar_text(heap, &input(rt, grammars::open::enough_bytes())?)?,
-        _ => return Err(anyhow!("the argument is `table` or `grammar`")),
-    };
-    rt.print(text.as_str())?;
-    Ok(())
-}
 
 fn run(rt: &HostRuntime) -> anyhow::Result<()> {
-    match env::args(rt)?.nth(1) {
-        Some(kind) => show(rt, kind.as_str()),
-        None => show(rt, "table"),
-    }
+    let kind = match env::args(rt)?.nth(1) {
+        Some(name) => name.as_str().parse()?,
+        None => Kind::Table,
+    };
+    let bytes = first_bytes(rt.alloc(), rt.stdin(), kind.enough_bytes())?;
+    let text = file_text(rt.alloc(), kind, &bytes)?;
+    rt.print(text.as_str())?;
+    Ok(())
 }
 
 fn main(rt: HostRuntime) -> anyhow::Result<()> {

@@ -1,9 +1,7 @@
--- What is pushed, before the bytes of the digits that are left, is the whole.
-use Rattle.std.proofs.Common.{◌≡◌, ◌*◌, ◌++◌, drop, vec_items}
-use Rattle.std.specs.Option.{option_map}
-use Rattle.hexadecimal.specs.Digits.{bytes_of}
+-- What is pushed, before the bytes of the pairs that are left, is the whole.
+use Rattle.std.proofs.Common.{vec_items}
+use Rattle.hexadecimal.proofs.Pairs.{Left}
 use Rattle.hexadecimal.proofs.decoding.decoded.Given as goal
 
-abbrev pub invariant-loop-place : goal.invariant-loop-place
-invariant-loop-place l =
-    option_map (λ rest. vec_items l.bytes ++ rest) (bytes_of (drop (2 * l.place) l.digits)) ≡ bytes_of l.digits
+abbrev pub invariant-loop-high : goal.invariant-loop-high
+invariant-loop-high l = Left l.pairs l.high-index (vec_items l.bytes)
