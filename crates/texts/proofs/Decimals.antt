@@ -1,47 +1,21 @@
 -- Numbers: one digit after the other, and that a number is read as it is written.
-use Rattle.std.proofs.Common.{◌≡◌, ℕ, ◌+◌, ◌-◌, ◌*◌, ◌/◌, ◌%◌, ◌<◌, ◌≤◌, true, false, cond, ltb, List, [], ◌∷◌, ◌++◌, length, get_or, drop, Some, None, decimal, sym, refl, ap, ◌∙◌, append_assoc, arith}
+use Rattle.std.proofs.Common.{◌≡◌, ℕ, ◌+◌, ◌-◌, ◌*◌, ◌/◌, ◌%◌, ◌<◌, ◌≤◌, true, false, List, [], ◌∷◌, ◌++◌, Some, decimal, refl, ap, ◌∙◌, append_assoc, arith}
 use Rattle.std.specs.Char.{is_ascii_digit}
-use Rattle.std.proofs.lemmas.Bool.{lt-ltb, le-ltb, le-leb, and_from}
-use Rattle.std.proofs.lemmas.List.{at_drop_more, at_drop_all, drop_more}
+use Rattle.std.proofs.lemmas.Bool.{lt-ltb, le-leb, and_from}
 use Rattle.std.proofs.lemmas.Fmt.{decimal_by_steps}
 use Rattle.texts.specs.Reading.{read, read_digits, digit_first, read_number, read_byte}
 
 -- One step of the digits, and each way that it can go.
 module _ (n b : ℕ) (bs : List ℕ) where
   pub more : is_ascii_digit b ≡ true → n < 100000000 → read_digits n (b ∷ bs) ≡ read_digits (10 * n + (b - 48)) bs
-  more d l =
-      ap (λ t. cond t (cond (ltb n 100000000) (read_digits (10 * n + (b - 48)) bs) None) (Some (read n (b ∷ bs)))) d
-      ∙ ap (λ t. cond t (read_digits (10 * n + (b - 48)) bs) None) (lt-ltb n 100000000 l)
-
-  pub large : is_ascii_digit b ≡ true → 100000000 ≤ n → read_digits n (b ∷ bs) ≡ None
-  large d l =
-      ap (λ t. cond t (cond (ltb n 100000000) (read_digits (10 * n + (b - 48)) bs) None) (Some (read n (b ∷ bs)))) d
-      ∙ ap (λ t. cond t (read_digits (10 * n + (b - 48)) bs) None) (le-ltb n 100000000 l)
+  more d l = rw (d, lt-ltb n 100000000 l)
 
   pub stop : is_ascii_digit b ≡ false → read_digits n (b ∷ bs) ≡ Some (read n (b ∷ bs))
-  stop d = ap (λ t. cond t (cond (ltb n 100000000) (read_digits (10 * n + (b - 48)) bs) None) (Some (read n (b ∷ bs)))) d
+  stop d = rw d
 
 pub ended : (n : ℕ) (bs : List ℕ) → digit_first bs ≡ false → read_digits n bs ≡ Some (read n bs)
 ended n [] h = refl
 ended n (b ∷ bs) h = stop n b bs h
-
--- The same at a place of a list.
-module _ (n : ℕ) (xs : List ℕ) (i : ℕ) (h : i < length xs) where
-  here : read_digits n (drop i xs) ≡ read_digits n (get_or xs i 0 ∷ drop (i + 1) xs)
-  here = at_drop_more (read_digits n) xs i 0 h
-
-  pub more_at : is_ascii_digit (get_or xs i 0) ≡ true → n < 100000000
-      → read_digits n (drop i xs) ≡ read_digits (10 * n + (get_or xs i 0 - 48)) (drop (i + 1) xs)
-  more_at d l = here ∙ more n (get_or xs i 0) (drop (i + 1) xs) d l
-
-  pub large_at : is_ascii_digit (get_or xs i 0) ≡ true → 100000000 ≤ n → read_digits n (drop i xs) ≡ None
-  large_at d l = here ∙ large n (get_or xs i 0) (drop (i + 1) xs) d l
-
-  pub stop_at : is_ascii_digit (get_or xs i 0) ≡ false → read_digits n (drop i xs) ≡ Some (read n (drop i xs))
-  stop_at d = here ∙ stop n (get_or xs i 0) (drop (i + 1) xs) d ∙ ap (λ ys. Some (read n ys)) (sym (drop_more xs i 0 h))
-
-pub all_at : (n : ℕ) (xs : List ℕ) (i : ℕ) → length xs ≤ i → read_digits n (drop i xs) ≡ Some (read n [])
-all_at n xs i h = at_drop_all (read_digits n) xs i h
 
 -- The digits of n in front of a text: it begins with a digit, and is read on from n.
 pub record Spells (n : ℕ) (ds : List ℕ) (rest : List ℕ) : Type 0 where
@@ -75,7 +49,7 @@ spells n small = decimal_by_steps (λ m ds. m < 1000000000 → (rest : List ℕ)
 pub number_back : (n : ℕ) (rest : List ℕ) → n < 1000000000 → digit_first rest ≡ false → read_number (decimal n ++ rest) ≡ Some (read n rest)
 number_back n rest l e =
     let s = spells n l rest in
-    ap (λ t. cond t (read_digits 0 (decimal n ++ rest)) None) s.first ∙ s.reads ∙ ended n rest e
+    rw s.first (s.reads ∙ ended n rest e)
 
 pub byte_back : (n : ℕ) (rest : List ℕ) → n < 256 → digit_first rest ≡ false → read_byte (decimal n ++ rest) ≡ Some (read n rest)
-byte_back n rest l e = rw (number_back n rest (omega arith) e) (ap (λ t. cond t (Some (read n rest)) None) (lt-ltb n 256 l))
+byte_back n rest l e = rw (number_back n rest (omega arith) e, lt-ltb n 256 l)

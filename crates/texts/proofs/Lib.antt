@@ -1,5 +1,6 @@
 -- The lemmas that several functions share, and the law.
 pub mod Fronts
+pub mod Leaves
 pub mod Decimals
 pub mod Somes
 pub mod Lines

@@ -1,15 +1,16 @@
 -- The text of a machine is read as the machine.
-use Rattle.std.proofs.Common.{◌≡◌, ℕ, ◌+◌, ◌%◌, ◌^◌, ◌<◌, ◌≤◌, true, cond, List, [], ◌∷◌, ◌++◌, length, Some, Ok, Err, codes, decimal, refl, ap, ◌∙◌, append_assoc, arith}
-use Rattle.std.proofs.lemmas.Bool.{and_parts, and_from, ltb-true, ne_eqb}
+use Rattle.std.proofs.Common.{◌≡◌, ℕ, ◌+◌, ◌%◌, ◌^◌, ◌<◌, ◌≤◌, true, List, [], ◌∷◌, ◌++◌, length, Some, Ok, codes, decimal, refl, ap, ◌∙◌, append_assoc, arith}
+use Rattle.std.proofs.lemmas.Bool.{and_parts, ltb-true, ne_eqb}
 use Rattle.std.proofs.lemmas.Fmt.{decimal_by_steps}
 use Rattle.machine.specs.declared.row.Row.{Row}
 use Rattle.machine.specs.Rows.{is_byte, lawful_row}
 use Rattle.machine.specs.Lists.{Lists, Few, Limits, all, ends, above, width_of}
 use Rattle.reports.specs.Texts.{numbers_text, rows_text, machine_text}
-use Rattle.texts.specs.Reading.{read, either, read_states, read_rows, with_rows, read_lists, next_line, read_machine}
+use Rattle.texts.specs.Reading.{read, read_states, read_rows, read_lists, next_line, read_machine}
 use Rattle.texts.specs.Laws.{ReadsBack}
 use Rattle.texts.proofs.NumbersBack.{states_back}
-use Rattle.texts.proofs.RowsBack.{rows_back, length-rows}
+use Rattle.machine.proofs.Largest.{above-append}
+use Rattle.texts.proofs.RowsBack.{row_bytes, rows_back, length-rows}
 
 -- No line ends in these bytes.
 pub record OneLine (bs : List ℕ) : Type 0 where
@@ -24,7 +25,7 @@ decimal_line : (n : ℕ) → n < 2 ^ 64 → OneLine (decimal n)
 decimal_line = decimal_by_steps (λ _ ds. OneLine ds) (λ n h. one n) (λ n ds h x. both x (one (n % 10)))
   where
     one : (d : ℕ) → OneLine ((48 + d) ∷ [])
-    one d = record { skips = λ rest. ap (λ t. cond t rest (next_line rest)) (ne_eqb (48 + d) 10 (λ e. omega arith)) }
+    one d = record { skips = λ rest. rw (ne_eqb (48 + d) 10 (λ e. omega arith)) }
 
 -- The largest state is a byte, so the width is at most 256.
 above_bytes : (ns : List ℕ) → all is_byte ns ≡ true → above ns ≤ 256
@@ -33,24 +34,13 @@ above_bytes (n ∷ ns) h =
     let k = and_parts (is_byte n) (all is_byte ns) h in
     omega (arith, ltb-true n 256 k.0, above_bytes ns k.1)
 
-all_both : (xs ys : List ℕ) → all is_byte xs ≡ true → all is_byte ys ≡ true → all is_byte (xs ++ ys) ≡ true
-all_both [] ys h k = k
-all_both (x ∷ xs) ys h k =
-    let p = and_parts (is_byte x) (all is_byte xs) h in
-    and_from (is_byte x) (all is_byte (xs ++ ys)) p.0 (all_both xs ys p.1 k)
-
-all_ends : (rs : List Row) → all lawful_row rs ≡ true → all is_byte (ends rs) ≡ true
-all_ends [] h = refl
-all_ends (r ∷ rs) h =
-    let p = and_parts (lawful_row r) (all lawful_row rs) h in
-    let from = and_parts (is_byte r.from) _ p.0 in
-    let letter = and_parts (is_byte r.letter) _ from.1 in
-    let to = and_parts (is_byte r.to) _ letter.1 in
-    and_from (is_byte r.from) _ from.0 (and_from (is_byte r.to) (all is_byte (ends rs)) to.0 (all_ends rs p.1))
+ends_bytes : (rs : List Row) → all lawful_row rs ≡ true → above (ends rs) ≤ 256
+ends_bytes [] h = omega arith
+ends_bytes (r ∷ rs) h = let p = and_parts (lawful_row r) (all lawful_row rs) h in omega (arith, row_bytes r p.0, ends_bytes rs p.1)
 
 width_small : (m : Lists) → Limits m → width_of m ≤ 256
 width_small m l =
-    above_bytes _ (all_both m.starts _ l.starts (all_both m.accepts (ends m.rows) l.accepts (all_ends m.rows l.rows)))
+    simp above-append (omega (arith, above_bytes m.starts l.starts, above_bytes m.accepts l.accepts, ends_bytes m.rows l.rows))
 
 module _ (m : Lists) where
   -- The first line past its first word, and the lines past it.
@@ -94,9 +84,7 @@ module _ (m : Lists) where
       let a : read_states (codes "accept") rest ≡ Some (read m.accepts rows) = states_back (codes "accept") m.accepts rows l.accepts in
       let r : read_rows (length rows) 4 rows ≡ Ok m.rows =
       rows_back m.rows (length rows) 4 0 l.rows (length-rows 0 m.rows) (omega (arith, f.rows)) in
-      ap (λ o. either o (Err 2) (λ x. either (read_states (codes "accept") x.rest) (Err 3) (λ y. with_rows x.value y.value (read_rows (length y.rest) 4 y.rest)))) s
-      ∙ ap (λ o. either o (Err 3) (λ y. with_rows m.starts y.value (read_rows (length y.rest) 4 y.rest))) a
-      ∙ ap (with_rows m.starts m.accepts) r
+      rw (s, a, r)
 
 pub reads_back : ReadsBack
 reads_back m f l =

@@ -1,12 +1,12 @@
 -- Numbers and words are read as they are written.
-use Rattle.std.proofs.Common.{◌≡◌, ℕ, zero, suc, ◌+◌, ◌-◌, ◌≤◌, true, false, cond, eqb, ltb, leb, List, [], ◌∷◌, ◌++◌, length, take, replicate, Some, None, codes, decimal, sym, refl, ap, ◌∙◌, append_assoc, arith, length-append}
+use Rattle.std.proofs.Common.{◌≡◌, ℕ, zero, suc, ◌+◌, ◌-◌, ◌≤◌, true, false, eqb, ltb, leb, List, [], ◌∷◌, ◌++◌, length, take, replicate, Some, None, codes, decimal, refl, ap, ◌∙◌, append_assoc, arith, length-append}
 use Rattle.std.proofs.lemmas.Bool.{and_parts, and_from, leb-true, ltb-true, eqb-true, ne_eqb}
 use Rattle.machine.specs.declared.row.Word.{Word}
 use Rattle.machine.specs.Rows.{is_byte, is_symbol, padded, lawful_word, symbols_of}
 use Rattle.machine.specs.Lists.{all}
 use Rattle.machine.proofs.Padding.{padded_fits}
 use Rattle.reports.specs.Texts.{spaced, numbers_text}
-use Rattle.texts.specs.Reading.{read, either, ended, digit_first, read_byte, read_spaced, put_front, read_some, read_numbers, after, word_of, read_word, read_states}
+use Rattle.texts.specs.Reading.{read, ended, digit_first, read_byte, read_spaced, put_front, read_some, read_numbers, after, read_word, read_states}
 use Rattle.texts.proofs.Fronts.{there}
 use Rattle.texts.proofs.Decimals.{spells, byte_back}
 use Rattle.texts.proofs.Somes.{some_more, some_stop}
@@ -35,7 +35,7 @@ no_dash : (ys : List ℕ) → digit_first ys ≡ true → after (codes "-") ys �
 no_dash [] h = refl
 no_dash (y ∷ ys) h =
     let k = leb-true 48 y (and_parts (leb 48 y) (leb y 57) h).0 in
-    ap (λ t. cond t (Some ys) None) (ne_eqb y 45 (λ e. omega arith))
+    rw (ne_eqb y 45 (λ e. omega arith))
 
 pub numbers_back : (ns : List ℕ) (most : ℕ) (rest : List ℕ) → all is_byte ns ≡ true → length ns ≤ most → Ends rest
     → read_numbers most (numbers_text ns ++ rest) ≡ read ns rest
@@ -45,8 +45,7 @@ numbers_back (n ∷ ns) most rest b l e =
     let m = ltb-true n 256 k.0 in
     let s = spells n (omega arith) (spaced ns ++ rest) in
     let d : digit_first ((decimal n ++ spaced ns) ++ rest) ≡ true = rw append_assoc s.first in
-    ap (λ o. either o (read_some most (spaced (n ∷ ns) ++ rest)) (λ r. read [] r)) (no_dash ((decimal n ++ spaced ns) ++ rest) d)
-    ∙ some_back (n ∷ ns) most rest b l e
+    rw (no_dash ((decimal n ++ spaced ns) ++ rest) d) (some_back (n ∷ ns) most rest b l e)
 
 length-spaced : (ns rest : List ℕ) → length ns ≤ length (spaced ns ++ rest)
 length-spaced [] rest = omega arith
@@ -61,8 +60,7 @@ length-numbers (n ∷ ns) rest = length-spaced (n ∷ ns) rest
 pub states_back : (name ns rest : List ℕ) → all is_byte ns ≡ true → read_states name (name ++ (numbers_text ns ++ (codes "\n" ++ rest))) ≡ Some (read ns rest)
 states_back name ns rest b =
     let line : List ℕ = numbers_text ns ++ (codes "\n" ++ rest) in
-    ap (λ o. either o None (λ r. ended (read_numbers (length r) r))) (there name line)
-    ∙ ap ended (numbers_back ns (length line) (codes "\n" ++ rest) b (length-numbers ns (codes "\n" ++ rest)) (record { digit = refl; spaced = refl }))
+    rw (there name line) (ap ended (numbers_back ns (length line) (codes "\n" ++ rest) b (length-numbers ns (codes "\n" ++ rest)) (record { digit = refl; spaced = refl })))
 
 -- What stands in a word: n symbols, and k zeros after them.
 pub record Stands (n k : ℕ) (bs : List ℕ) : Type 0 where
@@ -79,14 +77,14 @@ stands zero (suc k) (b ∷ bs) p l =
     let h = and_parts (eqb b 0) (padded zero bs) p in
     let e = eqb-true b 0 h.0 in
     let s = stands zero k bs h.1 (omega arith) in
-    record { long = refl; bytes = refl; whole = ap (λ c. c ∷ bs) e ∙ ap (λ cs. 0 ∷ cs) s.whole }
+    record { long = refl; bytes = refl; whole = cc }
 stands (suc n) k (b ∷ bs) p l =
     let h = and_parts (is_symbol b) (padded n bs) p in
     let s = stands n k bs h.1 (omega arith) in
     record {
       long = ap suc s.long;
       bytes = and_from (is_byte b) (all is_byte (take n bs)) (and_parts (ltb 0 b) (is_byte b) h.0).1 s.bytes;
-      whole = ap (λ cs. b ∷ cs) s.whole;
+      whole = cc;
     }
 
 pub word_back : (w : Word) (rest : List ℕ) → lawful_word w ≡ true → Ends rest → read_word (numbers_text (symbols_of w) ++ rest) ≡ Some (read w rest)
@@ -95,6 +93,4 @@ word_back w rest h e =
     let ten = eqb-true (length w.symbols) 10 p.0 in
     let fits = padded_fits w.len w.symbols p.1 in
     let s = stands w.len (10 - w.len) w.symbols p.1 (omega arith) in
-    ap (λ r. Some (read (word_of r.value) r.rest)) (numbers_back (symbols_of w) 10 rest s.bytes (omega (arith, s.long)) e)
-    ∙ ap (λ k. Some (read {X = Word} (record { len = k; symbols = symbols_of w ++ replicate (10 - k) 0 }) rest)) s.long
-    ∙ ap (λ ss. Some (read {X = Word} (record { len = w.len; symbols = ss }) rest)) (sym s.whole)
+    rw (numbers_back (symbols_of w) 10 rest s.bytes (omega (arith, s.long)) e, s.long, ← s.whole)

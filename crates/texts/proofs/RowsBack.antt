@@ -1,9 +1,10 @@
 -- Rows are read as they are written.
 use Rattle.std.proofs.Common.{◌≡◌, ℕ, ◌+◌, ◌-◌, ◌<◌, ◌≤◌, true, List, [], ◌∷◌, ◌++◌, length, Some, Ok, codes, decimal, Option, refl, ap, ◌∙◌, append_assoc, arith, length-append}
-use Rattle.std.proofs.lemmas.Bool.{and_parts, ltb-true, ne_eqb}
+use Rattle.std.proofs.lemmas.Bool.{and_parts, ne_eqb}
+use Rattle.std.proofs.lemmas.Bool.Decides.{nat_tests}
 use Rattle.machine.specs.declared.row.Word.{Word}
 use Rattle.machine.specs.declared.row.Row.{Row}
-use Rattle.machine.specs.Rows.{is_byte, lawful_word, lawful_row, pops, pushes}
+use Rattle.machine.specs.Rows.{lawful_word, lawful_row, pops, pushes}
 use Rattle.machine.specs.Lists.{all}
 use Rattle.reports.specs.Texts.{numbers_text, row_text, rows_text}
 use Rattle.texts.specs.Reading.{Read, read, and_then, ended, read_word, read_after, read_row, with_row, read_rows}
@@ -14,6 +15,17 @@ use Rattle.texts.proofs.Lines.{rows_end, rows_more}
 -- Reading goes on with what a part gives.
 goes : {X Y : Type 0} {o : Option X} {x : X} {y : Option Y} (k : X → Option Y) → o ≡ Some x → k x ≡ y → and_then o k ≡ y
 goes k e f = ap (λ p. and_then p k) e ∙ f
+
+-- What a lawful row is made of.
+pub record Lawful (r : Row) : Type 0 where
+  pub from : r.from < 256
+  pub letter : r.letter < 256
+  pub to : r.to < 256
+  pub popped : lawful_word r.popped ≡ true
+  pub pushed : lawful_word r.pushed ≡ true
+
+pub row_bytes : (r : Row) → lawful_row r ≡ true → Lawful r
+row_bytes r h = grind (arith, nat_tests)
 
 -- The text of a row, and what stands after it, from the front on.
 module _ (place : ℕ) (r : Row) (rest : List ℕ) where
@@ -54,16 +66,13 @@ module _ (place : ℕ) (r : Row) (rest : List ℕ) where
 
   pub row_back : lawful_row r ≡ true → place < 1000000000 → read_row (row_text place r ++ rest) ≡ Some (read r rest)
   row_back h l =
-      let from = and_parts (is_byte r.from) _ h in
-      let letter = and_parts (is_byte r.letter) _ from.1 in
-      let to = and_parts (is_byte r.to) _ letter.1 in
-      let words = and_parts (lawful_word r.popped) (lawful_word r.pushed) to.1 in
+      let b = row_bytes r h in
       let e0 = number_back place after_place l refl in
-      let e1 = byte_back r.from after_from (ltb-true r.from 256 from.0) refl in
-      let e2 = byte_back r.letter after_letter (ltb-true r.letter 256 letter.0) refl in
-      let e3 = byte_back r.to after_to (ltb-true r.to 256 to.0) refl in
-      let e4 = word_back r.popped after_pop words.0 (record { digit = refl; spaced = refl }) in
-      let e5 = word_back r.pushed after_push words.1 (record { digit = refl; spaced = refl }) in
+      let e1 = byte_back r.from after_from b.from refl in
+      let e2 = byte_back r.letter after_letter b.letter refl in
+      let e3 = byte_back r.to after_to b.to refl in
+      let e4 = word_back r.popped after_pop b.popped (record { digit = refl; spaced = refl }) in
+      let e5 = word_back r.pushed after_push b.pushed (record { digit = refl; spaced = refl }) in
       ap read_row row_regrouped ∙ goes _ e0 (goes _ e1 (goes _ e2 (goes _ e3 (goes with_popped e4 (goes (with_pushed r.popped) e5 refl)))))
 
 length-row : (place : ℕ) (r : Row) (rest : List ℕ) → length rest < length (row_text place r ++ rest)

@@ -1,22 +1,19 @@
 -- Numbers that are read one after the other, each after a space.
-use Rattle.std.proofs.Common.{◌≡◌, ℕ, zero, suc, ◌+◌, ◌-◌, ◌<◌, ◌≤◌, List, [], ◌∷◌, ◌++◌, length, take, drop, set, replicate, Some, None, sym, refl, ap, ◌∙◌, append_assoc, append-nil, arith, length-set, take-append-drop, length-take}
+use Rattle.std.proofs.Common.{◌≡◌, ℕ, zero, suc, ◌+◌, ◌-◌, ◌<◌, ◌≤◌, List, [], ◌∷◌, ◌++◌, length, take, drop, set, replicate, Some, None, sym, refl, ap, ◌∙◌, append_assoc, append-nil, arith, sub-one, length-set, take-append-drop, length-take}
 use Rattle.std.proofs.lemmas.List.{take_more_set, drop-set-lt, drop-drop, drop-replicate}
-use Rattle.machine.specs.declared.row.Word.{Word}
-use Rattle.texts.specs.Reading.{Read, read, either, put_front, read_spaced, read_some, word_of}
+use Rattle.texts.specs.Reading.{Read, read, put_front, read_spaced, read_some, word_of}
+use Rattle.texts.proofs.Leaves.{after_spaced}
 
 pub some_more : (left : ℕ) (rest : List ℕ) (b : Read ℕ) → 0 < left → read_spaced rest ≡ Some b
     → read_some left rest ≡ put_front b.value (read_some (left - 1) b.rest)
 unfolding read_some
 some_more zero rest b h e = absurd (omega arith)
-some_more (suc k) rest b h e =
-    let n : k ≡ suc k - 1 = omega arith in
-    ap (λ o. either o (read [] rest) (λ c. put_front c.value (read_some k c.rest))) e
-    ∙ ap (λ j. put_front b.value (read_some j b.rest)) n
+some_more (suc k) rest b h e = rw (e, sub-one)
 
 pub some_stop : (left : ℕ) (rest : List ℕ) → read_spaced rest ≡ None → read_some left rest ≡ read [] rest
 unfolding read_some
 some_stop zero rest e = refl
-some_stop (suc k) rest e = ap (λ o. either o (read [] rest) (λ c. put_front c.value (read_some k c.rest))) e
+some_stop (suc k) rest e = rw e
 
 some_none : (left : ℕ) (rest : List ℕ) → left ≡ 0 → read_some left rest ≡ read [] rest
 unfolding read_some
@@ -30,31 +27,41 @@ onto seen r = read (seen ++ r.value) r.rest
 pub record Seen (most : ℕ) (text : List ℕ) (left : ℕ) (seen rest : List ℕ) : Type 0 where
   pub whole : onto seen (read_some left rest) ≡ read_some most text
 
-pub seen_none : {most left : ℕ} {seen : List ℕ} (text : List ℕ) → left ≡ most → seen ≡ [] → Seen most text left seen text
-seen_none {most} {left} {seen} text l e = record {
-  whole = ap (λ s. onto s (read_some left text)) e ∙ ap (λ k. read_some k text) l;
-}
-
 module _ {most left : ℕ} {text seen rest : List ℕ} (old : Seen most text left seen rest) where
   pub seen_more : {b k : ℕ} {next more : List ℕ} → read_spaced rest ≡ Some (read b next) → 0 < left → k ≡ left - 1
       → more ≡ seen ++ b ∷ [] → Seen most text k more next
   seen_more {b} {k} {next} {more} e some down added = record {
     whole =
-        ap (λ s. onto s (read_some k next)) added
-        ∙ ap (λ s. read s (read_some k next).rest) (append_assoc seen (b ∷ []) (read_some k next).value)
-        ∙ ap (λ j. onto seen (put_front b (read_some j next))) down
-        ∙ ap (onto seen) (sym (some_more left rest (read b next) some e))
-        ∙ old.whole;
+        rw (added, append_assoc, down) (ap (onto seen) (sym (some_more left rest (read b next) some e)) ∙ old.whole);
   }
 
   ending : read_some left rest ≡ read [] rest → read_some most text ≡ read seen rest
-  ending e = sym old.whole ∙ ap (onto seen) e ∙ ap (λ s. read s rest) (append-nil seen)
+  ending e = sym old.whole ∙ rw (e, append-nil)
 
   pub seen_stop : read_spaced rest ≡ None → read_some most text ≡ read seen rest
   seen_stop e = ending (some_stop left rest e)
 
   pub seen_all : left ≡ 0 → read_some most text ≡ read seen rest
   seen_all e = ending (some_none left rest e)
+
+-- The same, where the text is all that bounds how many there may be.
+pub record Begun (text seen rest : List ℕ) : Type 0 where
+  pub left : ℕ
+  pub enough : length rest ≤ left
+  pub so_far : Seen (length text) text left seen rest
+
+pub begun_more : {text seen rest next more : List ℕ} {b : ℕ} → Begun text seen rest → read_spaced rest ≡ Some (read b next)
+    → more ≡ seen ++ b ∷ [] → Begun text more next
+begun_more {rest = rest} {next = next} {b = b} old e added =
+    let s = after_spaced rest (read b next) e in
+    record {
+      left = old.left - 1;
+      enough = omega (arith, old.enough);
+      so_far = seen_more old.so_far e (omega (arith, old.enough)) refl added;
+    }
+
+pub begun_stop : {text seen rest : List ℕ} → Begun text seen rest → read_spaced rest ≡ None → read_some (length text) text ≡ read seen rest
+begun_stop old e = seen_stop old.so_far e
 
 zeros_more : (symbols : List ℕ) (i b : ℕ) → drop i symbols ≡ replicate (10 - i) 0
     → drop (i + 1) (set symbols i b) ≡ replicate (10 - (i + 1)) 0
@@ -70,9 +77,6 @@ pub record Filled (text symbols : List ℕ) (place : ℕ) (rest : List ℕ) : Ty
   pub seen : Seen 10 text (10 - place) (take place symbols) rest
   pub zeros : drop place symbols ≡ replicate (10 - place) 0
   pub ten : length symbols ≡ 10
-
-pub filled_none : (text : List ℕ) → Filled text (replicate 10 0) 0 text
-filled_none text = record { seen = seen_none text refl refl; zeros = refl; ten = refl }
 
 module _ {text symbols rest : List ℕ} {place : ℕ} (old : Filled text symbols place rest) where
   pub filled_more : {b : ℕ} {next : List ℕ} → read_spaced rest ≡ Some (read b next) → place < 10
@@ -92,7 +96,4 @@ module _ {text symbols rest : List ℕ} {place : ℕ} (old : Filled text symbols
       let n : length (take place symbols) ≡ place = simp length-take (omega (arith, old.ten)) in
       let z : symbols ≡ take place symbols ++ replicate (10 - place) 0 =
       sym (take-append-drop place symbols) ∙ ap (λ s. take place symbols ++ s) old.zeros in
-      ap (λ j. read {X = Word} (record { len = j; symbols = symbols }) rest) k
-      ∙ ap (λ s. read {X = Word} (record { len = place; symbols = s }) rest) z
-      ∙ ap (λ k. read {X = Word} (record { len = k; symbols = take place symbols ++ replicate (10 - k) 0 }) rest) (sym n)
-      ∙ ap (λ r. read (word_of r.value) r.rest) (sym e)
+      rw (e, n, ← z, k)

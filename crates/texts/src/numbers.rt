@@ -1,6 +1,6 @@
 //! Numbers that stand in front of a text.
-ghost use Rattle.std.specs.Prelude.{◌≡◌, Some, None, MatchOption};
-ghost use Rattle.texts.specs.Reading.{read, read_digits, read_number, read_byte, read_after};
+ghost use Rattle.std.specs.Prelude.{◌≡◌};
+ghost use Rattle.texts.specs.Reading.{read_digits, read_number, read_byte, read_spaced};
 
 use crate::found::Found;
 use crate::literals::past;
@@ -10,27 +10,25 @@ const ROOM: u32 = 100_000_000;
 
 // The number that the digits in front make.
 fn digits(text: &[u8]) -> Option<Found<'_, u32>>
-    ensures { MatchOption result (read_digits 0 text.now ≡ None) (λ n. read_digits 0 text.now ≡ Some (read n.value n.rest.now)) }
+    ensures { result ≡ read_digits 0 text.now }
 {
     let mut value = 0;
-    for (place, digit) in text.iter().enumerate() {
-        if !digit.is_ascii_digit() {
-            return Some(Found {
-                value,
-                rest: &text[place..],
-            });
-        }
+    let mut rest = text;
+    while let [digit, tail @ ..] = rest
+        && digit.is_ascii_digit()
+    {
         if value >= ROOM {
             return None;
         }
         value = 10 * value + u32::from(*digit - b'0');
+        rest = tail;
     }
-    Some(Found { value, rest: &[] })
+    Some(Found { value, rest })
 }
 
 // A number: one digit or more.
-fn number(text: &[u8]) -> Option<Found<'_, u32>>
-    ensures { MatchOption result (read_number text.now ≡ None) (λ n. read_number text.now ≡ Some (read n.value n.rest.now)) }
+pub(crate) fn number(text: &[u8]) -> Option<Found<'_, u32>>
+    ensures { result ≡ read_number text.now }
 {
     match text {
         [first, ..] if first.is_ascii_digit() => digits(text),
@@ -39,29 +37,17 @@ fn number(text: &[u8]) -> Option<Found<'_, u32>>
 }
 
 // A number of at most 255.
-fn byte(text: &[u8]) -> Option<Found<'_, u8>>
-    ensures { MatchOption result (read_byte text.now ≡ None) (λ b. read_byte text.now ≡ Some (read b.value b.rest.now)) }
+pub(crate) fn byte(text: &[u8]) -> Option<Found<'_, u8>>
+    ensures { result ≡ read_byte text.now }
 {
     let Found { value, rest } = number(text)?;
-    if value > 255 {
-        return None;
-    }
-    Some(Found {
-        value: value as u8,
-        rest,
-    })
+    let value = u8::try_from(value).ok()?;
+    Some(Found { value, rest })
 }
 
-// A number after a word.
-pub(crate) fn number_after<'a>(name: &[u8], text: &'a [u8]) -> Option<Found<'a, u32>>
-    ensures { MatchOption result (read_after name.now read_number text.now ≡ None) (λ n. read_after name.now read_number text.now ≡ Some (read n.value n.rest.now)) }
+// The same after a space.
+pub(crate) fn spaced(text: &[u8]) -> Option<Found<'_, u8>>
+    ensures { result ≡ read_spaced text.now }
 {
-    number(past(name, text)?)
-}
-
-// A number of at most 255 after a word.
-pub(crate) fn byte_after<'a>(name: &[u8], text: &'a [u8]) -> Option<Found<'a, u8>>
-    ensures { MatchOption result (read_after name.now read_byte text.now ≡ None) (λ b. read_after name.now read_byte text.now ≡ Some (read b.value b.rest.now)) }
-{
-    byte(past(name, text)?)
+    past(b" ", text).and_then(byte)
 }

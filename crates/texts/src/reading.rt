@@ -15,12 +15,10 @@ use std::alloc::Global;
 fn next_line(text: &[u8]) -> &[u8]
     ensures { result.now ≡ next_line text.now }
 {
-    for (place, byte) in text.iter().enumerate() {
-        if *byte == b'\n' {
-            return &text[place + 1..];
-        }
+    match text.iter().position(|byte| *byte == b'\n') {
+        Some(end) => &text[end + 1..],
+        None => &[],
     }
-    &[]
 }
 
 // The starts, the accepting states and the rows, from the line of that number on.
@@ -39,6 +37,7 @@ fn read_entries(heap: Global, line: usize, text: &[u8]) -> Result<Entries, Unrea
 }
 
 // Reads the text that is written of a machine. The first line, which only counts, may be left out.
+#[tactic(auto, using(crate::proofs::MachinesBack::reads_back))]
 pub fn read_text(heap: Global, text: &[u8]) -> Result<Entries, Unread>
     ensures outcome { Told result (λ e. read_machine text.now ≡ Ok (lists_of e)) (λ n. read_machine text.now ≡ Err n) }
     ensures inverse { ReadsBack }

@@ -1,27 +1,21 @@
 //! A line of states: the starts, or the accepting states.
-ghost use Rattle.std.specs.Prelude.{◌≡◌, length, Some, None};
+ghost use Rattle.std.specs.Prelude.{◌≡◌, length, Some, None, IfOk};
 ghost use Rattle.texts.specs.Reading.{read, read_some, read_numbers, read_states};
 ghost use Rattle.texts.specs.Outcomes.{Told};
 
 use crate::found::Found;
 use crate::literals::past;
-use crate::numbers::byte_after;
+use crate::numbers::spaced;
 use crate::unread::Unread;
-use std::alloc::Global;
+use std::alloc::{AllocError, Global};
 
 // As many states as stand there.
-fn some_states(heap: Global, text: &[u8]) -> Result<Found<'_, Vec<u8>>, Unread>
-    ensures { Told result (λ f. read_some (length text.now) text.now ≡ read f.value.items f.rest.now) (λ _. ⊥) }
+fn some_states(heap: Global, text: &[u8]) -> Result<Found<'_, Vec<u8>>, AllocError>
+    ensures { IfOk result (λ f. read_some (length text.now) text.now ≡ read f.value.items f.rest) }
 {
     let mut states = Vec::new(heap);
     let mut rest = text;
-    for _ in 0..text.len() {
-        let Some(state) = byte_after(b" ", rest) else {
-            return Ok(Found {
-                value: states,
-                rest,
-            });
-        };
+    while let Some(state) = spaced(rest) {
         states.push(state.value)?;
         rest = state.rest;
     }
@@ -32,8 +26,8 @@ fn some_states(heap: Global, text: &[u8]) -> Result<Found<'_, Vec<u8>>, Unread>
 }
 
 // The same; or a dash, for none.
-fn numbers(heap: Global, text: &[u8]) -> Result<Found<'_, Vec<u8>>, Unread>
-    ensures { Told result (λ f. read_numbers (length text.now) text.now ≡ read f.value.items f.rest.now) (λ _. ⊥) }
+fn numbers(heap: Global, text: &[u8]) -> Result<Found<'_, Vec<u8>>, AllocError>
+    ensures { IfOk result (λ f. read_numbers (length text.now) text.now ≡ read f.value.items f.rest) }
 {
     match past(b" -", text) {
         Some(rest) => Ok(Found {
@@ -51,14 +45,10 @@ pub(crate) fn states<'a>(
     line: usize,
     text: &'a [u8],
 ) -> Result<Found<'a, Vec<u8>>, Unread>
-    ensures { Told result (λ f. read_states name.now text.now ≡ Some (read f.value.items f.rest.now)) (λ n. (n ≡ line) × (read_states name.now text.now ≡ None)) }
+    ensures { Told result (λ f. read_states name.now text.now ≡ Some (read f.value.items f.rest)) (λ n. (n ≡ line) × (read_states name.now text.now ≡ None)) }
 {
-    let Some(inner) = past(name, text) else {
-        return Err(Unread::Line(line));
-    };
-    let Found { value, rest } = numbers(heap, inner)?;
-    match past(b"\n", rest) {
-        Some(rest) => Ok(Found { value, rest }),
-        None => Err(Unread::Line(line)),
-    }
+    let inner = past(name, text).ok_or(Unread::Line(line))?;
+    let states = numbers(heap, inner)?;
+    let rest = past(b"\n", states.rest).ok_or(Unread::Line(line))?;
+    Ok(Found { rest, ..states })
 }

@@ -1,41 +1,32 @@
 //! The words that a row pops and pushes.
-ghost use Rattle.std.specs.Prelude.{◌≡◌, Some, None, MatchOption};
-ghost use Rattle.texts.specs.Reading.{read, read_some, word_of, read_word, read_after};
+ghost use Rattle.std.specs.Prelude.{◌≡◌, Some};
+ghost use Rattle.texts.specs.Reading.{read, read_some, word_of, read_word};
 
 use crate::found::Found;
 use crate::literals::past;
-use crate::numbers::byte_after;
+use crate::numbers::spaced;
 use machine::row::Word;
-
-const MOST: usize = 10;
 
 // As many symbols as stand there, but at most ten.
 fn symbols(text: &[u8]) -> Found<'_, Word>
-    ensures { read result.value result.rest.now ≡ read (word_of (read_some 10 text.now).value) (read_some 10 text.now).rest }
+    ensures { result ≡ read (word_of (read_some 10 text.now).value) (read_some 10 text.now).rest }
 {
-    let mut symbols = [0; MOST];
+    let mut word = Word::EMPTY;
     let mut rest = text;
-    for place in 0..MOST {
-        let Some(symbol) = byte_after(b" ", rest) else {
-            let len = place as u8;
-            return Found {
-                value: Word { len, symbols },
-                rest,
-            };
+    for place in &mut word.symbols {
+        let Some(symbol) = spaced(rest) else {
+            break;
         };
-        symbols[place] = symbol.value;
+        *place = symbol.value;
+        word.len += 1;
         rest = symbol.rest;
     }
-    let len = MOST as u8;
-    Found {
-        value: Word { len, symbols },
-        rest,
-    }
+    Found { value: word, rest }
 }
 
 // The same; or a dash, for none.
-fn word(text: &[u8]) -> Found<'_, Word>
-    ensures { read_word text.now ≡ Some (read result.value result.rest.now) }
+pub(crate) fn word(text: &[u8]) -> Found<'_, Word>
+    ensures { read_word text.now ≡ Some result }
 {
     match past(b" -", text) {
         Some(rest) => Found {
@@ -44,11 +35,4 @@ fn word(text: &[u8]) -> Found<'_, Word>
         },
         None => symbols(text),
     }
-}
-
-// A word after its name.
-pub(crate) fn word_after<'a>(name: &[u8], text: &'a [u8]) -> Option<Found<'a, Word>>
-    ensures { MatchOption result (read_after name.now read_word text.now ≡ None) (λ w. read_after name.now read_word text.now ≡ Some (read w.value w.rest.now)) }
-{
-    Some(word(past(name, text)?))
 }

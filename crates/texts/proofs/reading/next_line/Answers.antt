@@ -1,17 +1,16 @@
-use Rattle.std.proofs.Common.{sym, ◌∙◌}
+use Rattle.std.proofs.Common.{rules, tests}
 use Rattle.std.proofs.lemmas.List.{take_rest}
-use Rattle.texts.proofs.Lines.{line_here, line_on, line_none}
+use Rattle.std.proofs.lemmas.Iterator.{YieldsList-from_slice}
+use Rattle.std.proofs.lemmas.Iterator.Search.{position_from_yields_List}
+use Rattle.texts.proofs.Lines.{is_feed, line_found, line_none}
 use Rattle.texts.proofs.reading.next_line.Goals as goal
 
-pub returns-then-byte-eq10 : goal.returns-then-byte-eq10
-returns-then-byte-eq10 c =
-    rw take_rest
-    (sym (line_here c.args.text.now c.loop-place.place c.loop-place-test.true c.if-byte-eq10.true) ∙ c.loop-place.invariant)
+pub returns-in-Some : goal.returns-in-Some
+returns-in-Some c =
+    rw take_rest (line_found c.args.text.now c.in-Some.end
+    (position_from_yields_List is_feed _ _ _ c.in-Some.ensures.ran (YieldsList-from_slice _ c.iter.ensures.rest) (λ x b q k. search (rules, tests))))
 
-pub loop-place-preserved : goal.loop-place-preserved
-loop-place-preserved c =
-    sym (line_on c.args.text.now c.loop-place.place c.loop-place-test.true c.if-byte-eq10.false) ∙ c.loop-place.invariant
-
-pub returns : goal.returns
-returns c =
-    sym (line_none c.args.text.now c.loop-place.place c.loop-place-test.false) ∙ c.loop-place.invariant
+pub returns-in-None : goal.returns-in-None
+returns-in-None c =
+    line_none c.args.text.now
+    (position_from_yields_List is_feed _ _ _ c.in-None.ensures.ran (YieldsList-from_slice _ c.iter.ensures.rest) (λ x b q k. search (rules, tests)))

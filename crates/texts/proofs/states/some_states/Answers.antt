@@ -1,16 +1,13 @@
-use Rattle.std.proofs.Common.{arith}
-use Rattle.texts.proofs.Somes.{seen_none, seen_more, seen_stop, seen_all}
+use Rattle.std.proofs.Common.{sym}
+use Rattle.texts.proofs.Leaves.{after_spaced}
+use Rattle.texts.proofs.Somes.{begun_more, begun_stop}
 use Rattle.texts.proofs.states.some_states.Goals as goal
 
-pub loop-init : goal.loop-init
-loop-init c = seen_none c.args.text.now (omega arith) c.new-states.ensures.items
+pub loop-state-smaller : goal.loop-state-smaller
+loop-state-smaller c = after_spaced _ _ (sym (rw (← c.state.view_is) at c.in-Some.ensures))
 
-pub loop-preserved : goal.loop-preserved
-loop-preserved c =
-    seen_more c.loop.invariant c.in-Some.ensures (omega arith) (omega arith) c.in_ok-push.ensures.items
-
-pub returns-in_default : goal.returns-in_default
-returns-in_default c = seen_stop c.loop.invariant c.in_default.ensures
+pub loop-state-preserved : goal.loop-state-preserved
+loop-state-preserved c = begun_more c.loop-state.invariant (sym (rw (← c.state.view_is) at c.in-Some.ensures)) c.in_ok-push.ensures.items
 
 pub returns : goal.returns
-returns c = seen_all c.loop.invariant (omega arith)
+returns c = begun_stop c.loop-state.invariant (sym c.in_default.ensures)
