@@ -10,7 +10,8 @@ use Rattle.theory.specs.Graph as graph
 use Rattle.theory.proofs.Steps.{stays, goes}
 use Rattle.theory.proofs.Useful.{member, sound_trail, at_state, reachable, useful_start, useful_accept, useful_row}
 use Rattle.marking.specs.Relations.{Holds, Identity}
-use Rattle.marking.specs.Nodes.{Level}
+use Rattle.marking.specs.declared.edges.Edges.{Edges}
+use Rattle.marking.specs.Nodes.{Joins, Level}
 use Rattle.marking.specs.Reach.{Behind, IsAhead, IsBehind}
 use Rattle.marking.specs.Marks.{row_at}
 use Rattle.marking.specs.Ways.{OnWay}
@@ -30,19 +31,19 @@ place_of_row m i r at = at_place m.rows i r at
     at_place (x ∷ xs) zero r e = (omega arith, cc)
     at_place (x ∷ xs) (suc i) r e = let p = at_place xs i r e in (omega (arith, p.0), p.1)
 
-module _ (m : Lists) (n low : ℕ) (labels nexts firsts cells base good ahead behind one : List ℕ) (g : Graph) (d : Draws m n low labels nexts firsts g)
-    (first : Identity one n n) (s : Saturated m n low labels nexts firsts one cells)
-    (a : IsAhead cells n low labels nexts m.starts ahead) (b : IsBehind cells n low labels nexts m.accepts behind)
-    (begun : Based cells base n ahead behind) (k : BackSaturated m n low labels nexts firsts cells base good)
-    (from_in : (i : ℕ) → i < length m.rows → (row_at m i).from < n) where
+module _ (m : Lists) (edges : Edges) (firsts base good ahead behind one : List ℕ) (g : Graph) (d : Draws m edges.nodes firsts g)
+    (first : Identity one edges.nodes.size edges.nodes.size) (s : Saturated m edges.nodes firsts one edges.cells.now)
+    (a : IsAhead edges m.starts ahead) (b : IsBehind edges m.accepts behind)
+    (begun : Based edges.cells.now base edges.nodes.size ahead behind) (k : BackSaturated m edges firsts base good)
+    (from_in : (i : ℕ) → i < length m.rows → (row_at m i).from < edges.nodes.size) where
   abbrev l : Lawful m g
   l = d.lawful
 
   abbrev E : ℕ → ℕ → Type 0
-  E = Holds cells n
+  E = Joins edges
 
   abbrev C : ℕ → ℕ → Type 0
-  C = Holds good n
+  C = Holds good edges.nodes.size
 
   abbrev Start : ℕ → Type 0
   Start x = Memᴰ x m.starts
@@ -54,7 +55,7 @@ module _ (m : Lists) (n low : ℕ) (labels nexts firsts cells base good ahead be
   sound = s.sound g d (λ u v h. let e = (first.only u v h).0 in stays m (ap l.st e) (ap l.tail e))
 
   loops : (z : ℕ) → T (g.inner z) → E z z
-  loops z i = s.order.reflexive z (d.drawn.inner_from z i).1
+  loops z i = edges.order.reflexive z (d.drawn.inner_from z i).1
 
   -- a lean trail for a level, and back
   trail_of : (r : Row) (x : ℕ) → Level g E (pops r) r.from (length (pops r)) x → (π : Trail g E x (pops r) r.from) × Lean π true
@@ -63,7 +64,7 @@ module _ (m : Lists) (n low : ℕ) (labels nexts firsts cells base good ahead be
   level_of : (i : ℕ) (r : Row) → At m.rows i r → (x : ℕ) (π : Trail g E x (pops r) r.from) → Lean π true → Level g E (pops r) r.from (length (pops r)) x
   level_of i r at x π h =
       let (lt, e) = place_of_row m i r at in
-      trail_level g E (pops r) r.from loops (s.order.reflexive r.from (subst (λ (q : Row). q.from < n) e (from_in i lt))) π h
+      trail_level g E (pops r) r.from loops (edges.order.reflexive r.from (subst (λ (q : Row). q.from < edges.nodes.size) e (from_in i lt))) π h
 
   closed : Closed m g E
   closed i r at x π h =
@@ -72,7 +73,7 @@ module _ (m : Lists) (n low : ℕ) (labels nexts firsts cells base good ahead be
       subst (λ f. E x f) (d.first i lt) o
 
   -- the first good edges are good, and so are all
-  base_good : (u v : ℕ) → Holds base n u v → Good m g l E u v
+  base_good : (u v : ℕ) → Holds base edges.nodes.size u v → Good m g l E u v
   base_good u v h =
       let t = begun.only u v h in
       let (x, hx, ρ, p) = ahead_trail g E Start (a.sound g d.drawn u t.source) in
@@ -99,12 +100,12 @@ module _ (m : Lists) (n low : ℕ) (labels nexts firsts cells base good ahead be
   back : Back m g E C
   back i r at x π h t =
       let (lt, e) = place_of_row m i r at in
-      let own = s.order.reflexive r.from (subst (λ (q : Row). q.from < n) e (from_in i lt)) in
+      let own = edges.order.reflexive r.from (subst (λ (q : Row). q.from < edges.nodes.size) e (from_in i lt)) in
       trail_ways g E (pops r) r.from loops C (g.first i)
       (λ u v o. subst (λ (q : Row). OnRow q (g.first i) u v → C u v) e (subst (λ f. OnRow (row_at m i) f u v → C u v) (d.first i lt) (k.walked g d.drawn i lt u v)) o)
       own π h t
 
-  pub solved : Solved m g n firsts cells good ahead behind
+  pub solved : Solved m g edges.nodes.size firsts edges.cells.now good ahead behind
   solved = record {
     useful = λ i lt.
         let r : Row = row_at m i in

@@ -7,6 +7,7 @@ use Rattle.machine.specs.Rows.{zero_row, pushes}
 use Rattle.machine.specs.Lists.{Lists}
 use Rattle.theory.specs.Layout.{Cell, plain, states, word_cells, row_cells, top, firsts, cells, cell_at, graph_of, Fits}
 use Rattle.theory.proofs.Nodes.{length-states, length-word, state_cell, lawful}
+use Rattle.marking.specs.declared.nodes.Nodes.{Nodes}
 use Rattle.marking.specs.Marks.{pushed}
 use Rattle.marking.specs.Rounds.{Draws}
 use Rattle.marking.specs.Drawing.{next_of, WordDrawn, DrewRows}
@@ -127,15 +128,16 @@ module _ (m : Lists) (low n : ℕ) (labels nexts firsts' : List ℕ) (d : DrewRo
       let u : x < n = elim (cases_lt x n) [ inl h ↦ h | inr h ↦ absurd (outside x h t) ] in
       (l, u)
 
-  pub draws : Fits m low → Draws m n low labels nexts firsts' (graph_of low m.rows)
-  draws fits =
-      record {
-        drawn = record {
-          inner_from = inside;
-          inner_of = λ x le lt. (inner_cell x le lt).inner;
-          label = λ x le lt. (inner_cell x le lt).label_is;
-          next = λ x le lt. (inner_cell x le lt).next_is;
-        };
-        lawful = lawful m low fits;
-        first = λ i lt. d.first i lt ∙ sym (rows_first m.rows low i lt);
-      }
+pub draws : (m : Lists) (nodes : Nodes) (firsts' : List ℕ) → DrewRows m nodes.low nodes.labels.now nodes.nexts.now firsts' (length m.rows) nodes.size → Fits m nodes.low → Draws m nodes firsts' (graph_of nodes.low m.rows)
+draws m nodes firsts' d fits =
+    let at = inner_cell m nodes.low nodes.size nodes.labels.now nodes.nexts.now firsts' d in
+    record {
+      drawn = record {
+        inner_from = inside m nodes.low nodes.size nodes.labels.now nodes.nexts.now firsts' d;
+        inner_of = λ x le lt. (at x le lt).inner;
+        label = λ x le lt. (at x le lt).label_is;
+        next = λ x le lt. (at x le lt).next_is;
+      };
+      lawful = lawful m nodes.low fits;
+      first = λ i lt. d.first i lt ∙ sym (rows_first m.rows nodes.low i lt);
+    }

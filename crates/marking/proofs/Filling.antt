@@ -7,14 +7,12 @@ use Rattle.std.proofs.lemmas.List.{get_or_past}
 use Rattle.std.proofs.lemmas.Bool.{cases_lt}
 use Rattle.theory.specs.Graph.{Graph}
 use Rattle.theory.specs.Levels.{Reads}
-use Rattle.marking.specs.Relations.{On, Holds, Adds}
-use Rattle.marking.specs.Nodes.{Shaped, Drawn, Leads, Level, none, again, Filled}
+use Rattle.marking.specs.declared.edges.Edges.{Edges}
+use Rattle.marking.specs.Relations.{On, Adds}
+use Rattle.marking.specs.Nodes.{Drawn, Joins, Leads, Level, none, again, Filled}
 
 pub all_zero : (ws : List ℕ) → ((k : ℕ) → k < length ws → get_or ws k 0 ≡ 0) → (k : ℕ) → get_or ws k 0 ≡ 0
 all_zero ws h k = ⊎_elim (h k) (get_or_past ws k 0) (cases_lt k (length ws))
-
-some_same : (x y : ℕ) → ◌≡◌ {A = Option ℕ} (some x) (some y) → x ≡ y
-some_same x y e = some-injective x y e
 
 -- the lines above k, up to top, are empty
 abbrev pub Blank : ℕ → List ℕ → ℕ → ℕ → Type 0
@@ -27,16 +25,19 @@ symbol_at (x ∷ xs) zero j h k = absurd (omega arith)
 symbol_at (x ∷ xs) (suc n) zero h k = refl
 symbol_at (x ∷ xs) (suc n) (suc j) h k = symbol_at xs n j (omega arith) (omega arith)
 
-module _ (g : Graph) (cells : List ℕ) (n low : ℕ) (labels nexts : List ℕ) (d : Drawn g n low labels nexts) (shape : Shaped n low labels nexts) (word : List ℕ) (q : ℕ) where
-  level_none : {z : ℕ} → Level g (Holds cells n) word q 0 z → Holds cells n z q
+module _ (g : Graph) (edges : Edges) (d : Drawn g edges.nodes) (word : List ℕ) (q : ℕ) where
+  abbrev n : ℕ
+  n = edges.nodes.size
+
+  level_none : {z : ℕ} → Level g (Joins edges) word q 0 z → Joins edges z q
   level_none (none e) = e
 
-  pub filled_none : (top : ℕ) (a b : List ℕ) → ((i : ℕ) → i < (top + 1) * n → get_or a i 0 ≡ 0) → Adds a b n 11 (λ u v. (v ≡ 0) × Holds cells n u q) → q < n
-      → Filled g (Holds cells n) word q n b 0 × Blank n b 0 top
+  pub filled_none : (top : ℕ) (a b : List ℕ) → ((i : ℕ) → i < (top + 1) * n → get_or a i 0 ≡ 0) → Adds a b n 11 (λ u v. (v ≡ 0) × Joins edges u q) → q < n
+      → Filled g (Joins edges) word q n b 0 × Blank n b 0 top
   filled_none top a b blank t hq =
       let off : (j z : ℕ) → j ≤ top → On a n 11 z j → ⊥ = λ j z le h. let k = h.on in let e = blank (j * n + z) (omega (arith, mul-add-lt j n z (top + 1) (omega arith) h.source)) in omega arith in (
         record {
-          has = λ j z h hz l. let e : j ≡ 0 = omega arith in rw e (t.done z 0 hz (omega arith) (refl, level_none (subst (λ i. Level g (Holds cells n) word q i z) e l)));
+          has = λ j z h hz l. let e : j ≡ 0 = omega arith in rw e (t.done z 0 hz (omega arith) (refl, level_none (subst (λ i. Level g (Joins edges) word q i z) e l)));
           only = λ j z h o. let e : j ≡ 0 = omega arith in
               elim (t.sound z j o) [
                 | inl k ↦ absurd (off j z (omega arith) k)
@@ -49,37 +50,36 @@ module _ (g : Graph) (cells : List ℕ) (n low : ℕ) (labels nexts : List ℕ) 
         ],
       )
 
-  module _ (top : ℕ) (a b : List ℕ) (k label : ℕ) (f : Filled g (Holds cells n) word q n a k) (blank : Blank n a k top) (below : k < top) (at : get_elem? word k ≡ some label)
-      (t : Adds a b n 11 (λ u v. (v ≡ k + 1) × Leads cells n low labels nexts label a k n u)) (small : k < 10) where
+  module _ (top : ℕ) (a b : List ℕ) (k label : ℕ) (f : Filled g (Joins edges) word q n a k) (blank : Blank n a k top) (below : k < top) (at : get_elem? word k ≡ some label)
+      (t : Adds a b n 11 (λ u v. (v ≡ k + 1) × Leads edges label a k n u)) (small : k < 10) where
     -- what leads on from line k
-    leads_from : {z : ℕ} → Level g (Holds cells n) word q (suc k) z → Leads cells n low labels nexts label a k n z
+    leads_from : {z : ℕ} → Level g (Joins edges) word q (suc k) z → Leads edges label a k n z
     leads_from (again z r e l) =
         let (lo, hi) = d.inner_from z r.inner in
-        let same : g.label z ≡ label = some_same (g.label z) label (sym r.label ∙ at) in
+        let same : g.label z ≡ label = some-injective (g.label z) label (sym r.label ∙ at) in
         let to = d.next z lo hi in
         record {
           node = z;
           above = lo;
           below = hi;
-          labelled = d.label z lo hi ∙ same;
-          onward = rw to (f.has k (g.next z) (omega arith) (rw to at (shape.next_in z lo hi)) l);
+          on = record { labelled = d.label z lo hi ∙ same; onward = rw to (f.has k (g.next z) (omega arith) (rw to at (edges.nodes.shaped.next_in z lo hi)) l) };
           before = e;
         }
 
-    level_by : {u : ℕ} → Leads cells n low labels nexts label a k n u → Level g (Holds cells n) word q (suc k) u
+    level_by : {u : ℕ} → Leads edges label a k n u → Level g (Joins edges) word q (suc k) u
     level_by l =
         let hi = l.below in
-        let r : Reads g word k l.node = record { inner = d.inner_of l.node l.above hi; label = at ∙ ap {B = Option ℕ} some (sym l.labelled ∙ d.label l.node l.above hi) } in
-        again l.node r l.before (f.only k (g.next l.node) (omega arith) (rw (d.next l.node l.above hi) at l.onward))
+        let r : Reads g word k l.node = record { inner = d.inner_of l.node l.above hi; label = at ∙ ap {B = Option ℕ} some (sym l.on.labelled ∙ d.label l.node l.above hi) } in
+        again l.node r l.before (f.only k (g.next l.node) (omega arith) (rw (d.next l.node l.above hi) at l.on.onward))
 
-    pub filled_more : Filled g (Holds cells n) word q n b (k + 1) × Blank n b (k + 1) top
+    pub filled_more : Filled g (Joins edges) word q n b (k + 1) × Blank n b (k + 1) top
     filled_more = (
       record {
         has = λ j z h hz l. elim (cases_lt j (k + 1)) [
           | inl lt ↦ t.grows z j (f.has j z (omega arith) hz l)
           | inr ge ↦
               let e : j ≡ k + 1 = omega arith in
-              let m : Level g (Holds cells n) word q (suc k) z = subst (λ i. Level g (Holds cells n) word q i z) (e ∙ add-one k) l in
+              let m : Level g (Joins edges) word q (suc k) z = subst (λ i. Level g (Joins edges) word q i z) (e ∙ add-one k) l in
               t.done z j hz (omega arith) (e, leads_from m)
         ];
         only = λ j z h o. elim (t.sound z j o) [
@@ -87,7 +87,7 @@ module _ (g : Graph) (cells : List ℕ) (n low : ℕ) (labels nexts : List ℕ) 
             | inl lt ↦ f.only j z (omega arith) i
             | inr ge ↦ absurd (blank j z (omega arith) (omega arith) i)
           ]
-          | inr r ↦ subst (λ i. Level g (Holds cells n) word q i z) (sym (r.0 ∙ add-one k)) (level_by r.1)
+          | inr r ↦ subst (λ i. Level g (Joins edges) word q i z) (sym (r.0 ∙ add-one k)) (level_by r.1)
         ];
       },
       λ j z h le o. elim (t.sound z j o) [

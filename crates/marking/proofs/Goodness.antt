@@ -1,5 +1,5 @@
 -- Rounds backward: what lies on a way from a good edge is good.
-use Rattle.std.proofs.Common.{◌≡◌, ℕ, zero, suc, ◌+◌, ◌*◌, ◌<◌, ◌≤◌, Bool, false, ◌||◌, ◌⊎◌, List, [], ◌∷◌, ◌++◌, length, get_or, take, drop, sym, refl, ap, ◌∙◌, subst, inl, inr, append_assoc, arith}
+use Rattle.std.proofs.Common.{◌≡◌, ℕ, zero, suc, ◌+◌, ◌<◌, Bool, false, ◌||◌, ◌⊎◌, List, [], ◌∷◌, ◌++◌, length, get_or, take, drop, sym, refl, ap, ◌∙◌, subst, inl, inr, append_assoc, arith}
 use mathlib.Core.Option.{some}
 use mathlib.Core.List.{Memᴰ}
 use lib.ListN.{get_elem?}
@@ -11,12 +11,12 @@ use Rattle.machine.specs.Lists.{Lists}
 use Rattle.theory.specs.Graph.{Graph, Trail, edge, down, At, Lawful, Accepts, Good}
 use Rattle.theory.proofs.Steps.{stays, goes, one}
 use Rattle.theory.proofs.Useful.{member, lower, level, at_state, of_state, earlier, sound_trail}
-use Rattle.marking.specs.Relations.{Member, Holds, Adds, IsLine, Steps, Touches, zeros}
-use Rattle.marking.specs.Nodes.{Drawn, Level}
+use Rattle.marking.specs.Relations.{Member, Holds, Steps, Touches, zeros}
+use Rattle.marking.specs.declared.edges.Edges.{Edges}
+use Rattle.marking.specs.Nodes.{Drawn, Joins, Level}
 use Rattle.marking.specs.Ways.{Passed, begin, step, OnWay}
 use Rattle.marking.specs.Marks.{row_at}
-use Rattle.marking.specs.Rounds.{Own, RowWalked, Pending, KeepsGood, BackRound, BackSaturated, Between, Based}
-use Rattle.marking.proofs.Cells.{adds_then, adds_as}
+use Rattle.marking.specs.Rounds.{Own, RowWalked, Pending, KeepsGood, BackRound, BackSaturated}
 use Rattle.marking.proofs.Applying.{own_graph, own_drawn}
 use Rattle.marking.proofs.Trails.{level_trail}
 use Rattle.marking.proofs.Rounding.{row_stands}
@@ -90,20 +90,20 @@ on_way_as : {g : Graph} {E C D : ℕ → ℕ → Type 0} {word : List ℕ} {q to
 on_way_as f u v (inl k) = inl (record { place = k.place; passed = passed_as f k.passed; step = k.step; reads = k.reads; level = k.level })
 on_way_as f u v (inr k) = inr (record { end = k.end; passed = passed_as f k.passed; step = k.step })
 
-module _ (m : Lists) (n low : ℕ) (labels nexts firsts cells : List ℕ) where
+module _ (m : Lists) (edges : Edges) (firsts : List ℕ) where
   abbrev Way : Graph → List ℕ → Row → ℕ → ℕ → ℕ → Type 0
-  Way g b row first = OnWay g (Holds cells n) (Holds b n) (pops row) row.from first
+  Way g b row first = OnWay g (Joins edges) (Holds b edges.nodes.size) (pops row) row.from first
 
   -- Where the edges of the ways over b are in c, and c has no more before the first node than b, the row is walked.
-  settled : (g : Graph) (b c t w : List ℕ) (y : Bool) → Touches b c n t w y → (i : ℕ) → ((u v : ℕ) → Way g b (row_at m i) (get_or firsts i 0) u v → Holds c n u v)
-      → Member w (get_or firsts i 0) ⊎ RowWalked m n firsts g cells c i
+  settled : (g : Graph) (b c t w : List ℕ) (y : Bool) → Touches b c edges.nodes.size t w y → (i : ℕ) → ((u v : ℕ) → Way g b (row_at m i) (get_or firsts i 0) u v → Holds c edges.nodes.size u v)
+      → Member w (get_or firsts i 0) ⊎ RowWalked m edges firsts g c i
   settled g b c t w y h i into =
       elim (cases_lt 0 (get_or w (get_or firsts i 0) 0)) [
         | inl k ↦ inl k
         | inr k ↦ inr (λ u v o. into u v (on_way_as (λ x e. elim (h.still x (get_or firsts i 0) e) [ inl z ↦ z | inr z ↦ absurd (omega arith) ]) u v o))
       ]
 
-  pub back_none : (pending a old : List ℕ) → ((g : Graph) → Drawn g n low labels nexts → Pending m n firsts g cells a pending) → BackRound m n low labels nexts firsts cells pending a a old old false 0
+  pub back_none : (pending a old : List ℕ) → ((g : Graph) → Drawn g edges.nodes → Pending m edges firsts g a pending) → BackRound m edges firsts pending a a old old false 0
   back_none pending a old p = record {
     grows = λ u v h. h;
     same = λ e. refl;
@@ -114,8 +114,8 @@ module _ (m : Lists) (n low : ℕ) (labels nexts firsts cells : List ℕ) where
     left = λ g d i h lt. elim (p g d i lt) [ inl k ↦ inl k | inr k ↦ inr (inr k) ];
   }
 
-  module _ (pending a b old t : List ℕ) (x : Bool) (i : ℕ) (lt : i < length m.rows) (h : BackRound m n low labels nexts firsts cells pending a b old t x i) where
-    pub back_skip : (Member pending (get_or firsts i 0) → ⊥) → (Member t (get_or firsts i 0) → ⊥) → BackRound m n low labels nexts firsts cells pending a b old t x (i + 1)
+  module _ (pending a b old t : List ℕ) (x : Bool) (i : ℕ) (lt : i < length m.rows) (h : BackRound m edges firsts pending a b old t x i) where
+    pub back_skip : (Member pending (get_or firsts i 0) → ⊥) → (Member t (get_or firsts i 0) → ⊥) → BackRound m edges firsts pending a b old t x (i + 1)
     back_skip np nt = record {
       grows = h.grows;
       same = h.same;
@@ -125,43 +125,42 @@ module _ (m : Lists) (n low : ℕ) (labels nexts firsts cells : List ℕ) where
       done = λ g d j k. elim (cases_eq j i) [
         | inl same ↦ elim (h.left g d i (omega arith) lt) [
           | inl z ↦ absurd (np z)
-          | inr z ↦ subst (λ y. Member t (get_or firsts y 0) ⊎ RowWalked m n firsts g cells b y) (sym same) z
+          | inr z ↦ subst (λ y. Member t (get_or firsts y 0) ⊎ RowWalked m edges firsts g b y) (sym same) z
         ]
         | inr ne ↦ h.done g d j (omega arith)
       ];
       left = λ g d j k. h.left g d j (omega arith);
     }
 
-    module _ (c w : List ℕ) (y : Bool) (row : Row) (is : row ≡ row_at m i)
-        (d : (g : Graph) → Drawn g n low labels nexts → Steps b c n (Way g b row (get_or firsts i 0)) y) (tc : Touches b c n t w y) where
-      abbrev own : Steps b c n (Way (own_graph n low labels nexts) b row (get_or firsts i 0)) y
-      own = d (own_graph n low labels nexts) (own_drawn n low labels nexts)
+    module _ (c w : List ℕ) (y : Bool)
+        (d : (g : Graph) → Drawn g edges.nodes → Steps b c edges.nodes.size (Way g b (row_at m i) (get_or firsts i 0)) y) (tc : Touches b c edges.nodes.size t w y) where
+      abbrev own : Steps b c edges.nodes.size (Way (own_graph edges.nodes) b (row_at m i) (get_or firsts i 0)) y
+      own = d (own_graph edges.nodes) (own_drawn edges.nodes)
 
-      more_good : KeepsGood m n low labels nexts firsts cells a c
+      more_good : KeepsGood m edges firsts a c
       more_good g v s k u z o =
           let kb = h.sound g v s k in
-          let at : At m.rows i row = subst (λ x. At m.rows i x) (sym is) (row_stands m.rows i lt) in
+          let at = row_stands m.rows i lt in
           elim ((d g v.drawn).adds.sound u z o) [
             | inl e ↦ kb u z e
-            | inr e ↦ on_way_good m g v.lawful (Holds cells n) s i row at (Holds b n) kb u z (subst (λ f. Way g b row f u z) (v.first i lt) e)
+            | inr e ↦ on_way_good m g v.lawful (Joins edges) s i (row_at m i) at (Holds b edges.nodes.size) kb u z (subst (λ f. Way g b (row_at m i) f u z) (v.first i lt) e)
           ]
 
-      in_cells : (g : Graph) {word : List ℕ} {q top u v : ℕ} → OnWay g (Holds cells n) (Holds b n) word q top u v → (u < n) × (v < n)
+      in_cells : (g : Graph) {word : List ℕ} {q top u v : ℕ} → OnWay g (Joins edges) (Holds b edges.nodes.size) word q top u v → (u < edges.nodes.size) × (v < edges.nodes.size)
       in_cells g (inl k) = (k.step.source, k.step.target)
       in_cells g (inr k) = (k.step.source, rw k.end k.step.target)
 
-      this_row : (g : Graph) → Drawn g n low labels nexts → Member w (get_or firsts i 0) ⊎ RowWalked m n firsts g cells c i
+      this_row : (g : Graph) → Drawn g edges.nodes → Member w (get_or firsts i 0) ⊎ RowWalked m edges firsts g c i
       this_row g v = settled g b c t w y tc i (λ u z o.
-          let o' = subst (λ q. Way g b q (get_or firsts i 0) u z) (sym is) o in
-          let (hu, hz) = in_cells g o' in
-          (d g v).adds.done u z hu hz o')
+          let (hu, hz) = in_cells g o in
+          (d g v).adds.done u z hu hz o)
 
       -- a row that was walked still is, or its first node was touched
-      other_row : (g : Graph) (j : ℕ) → Member t (get_or firsts j 0) ⊎ RowWalked m n firsts g cells b j → Member w (get_or firsts j 0) ⊎ RowWalked m n firsts g cells c j
+      other_row : (g : Graph) (j : ℕ) → Member t (get_or firsts j 0) ⊎ RowWalked m edges firsts g b j → Member w (get_or firsts j 0) ⊎ RowWalked m edges firsts g c j
       other_row g j (inl k) = inl (tc.keeps (get_or firsts j 0) k)
       other_row g j (inr k) = settled g b c t w y tc j (λ u z o. own.adds.grows u z (k u z o))
 
-      pub back_more : BackRound m n low labels nexts firsts cells pending a c old w (x || y) (i + 1)
+      pub back_more : BackRound m edges firsts pending a c old w (x || y) (i + 1)
       back_more = record {
         grows = λ u v k. own.adds.grows u v (h.grows u v k);
         same = λ e. let q = or_parts x y e in own.same q.1 ∙ h.same q.0;
@@ -172,7 +171,7 @@ module _ (m : Lists) (n low : ℕ) (labels nexts firsts cells : List ℕ) where
         quiet = λ e. let q = or_parts x y e in tc.quiet q.1 ∙ h.quiet q.0;
         sound = more_good;
         done = λ g v j k. elim (cases_eq j i) [
-          | inl same ↦ subst (λ z. Member w (get_or firsts z 0) ⊎ RowWalked m n firsts g cells c z) (sym same) (this_row g v)
+          | inl same ↦ subst (λ z. Member w (get_or firsts z 0) ⊎ RowWalked m edges firsts g c z) (sym same) (this_row g v)
           | inr ne ↦ other_row g j (h.done g v j (omega arith))
         ];
         left = λ g v j k q. elim (h.left g v j (omega arith) q) [
@@ -185,15 +184,15 @@ module _ (m : Lists) (n low : ℕ) (labels nexts firsts cells : List ℕ) where
           still k = elim (cases_Bool x) [ inl z ↦ let q = h.fewer z in omega arith | inr no' ↦ let f = h.same no' in grind arith ]
 
 -- What the rounds so far have made of a, and what is left to walk.
-pub record Backed (m : Lists) (n low : ℕ) (labels nexts firsts cells a b pending touched : List ℕ) : Type 0 where
-  pub grows : (u v : ℕ) → Holds a n u v → Holds b n u v
-  pub sound : KeepsGood m n low labels nexts firsts cells a b
-  pub left : (g : Graph) → Drawn g n low labels nexts → Pending m n firsts g cells b pending
+pub record Backed (m : Lists) (edges : Edges) (firsts a b pending touched : List ℕ) : Type 0 where
+  pub grows : (u v : ℕ) → Holds a edges.nodes.size u v → Holds b edges.nodes.size u v
+  pub sound : KeepsGood m edges firsts a b
+  pub left : (g : Graph) → Drawn g edges.nodes → Pending m edges firsts g b pending
   pub blank : (k : ℕ) → get_or touched k 0 ≡ 0
 
-module _ (m : Lists) (n low : ℕ) (labels nexts firsts cells a : List ℕ) where
-  pub backed_none : (pending touched : List ℕ) → ((k : ℕ) → k < length pending → get_or pending k 0 ≡ 1) → length pending ≡ n
-      → ((i : ℕ) → i < length m.rows → get_or firsts i 0 < n) → ((k : ℕ) → get_or touched k 0 ≡ 0) → Backed m n low labels nexts firsts cells a a pending touched
+module _ (m : Lists) (edges : Edges) (firsts a : List ℕ) where
+  pub backed_none : (pending touched : List ℕ) → ((k : ℕ) → k < length pending → get_or pending k 0 ≡ 1) → length pending ≡ edges.nodes.size
+      → ((i : ℕ) → i < length m.rows → get_or firsts i 0 < edges.nodes.size) → ((k : ℕ) → get_or touched k 0 ≡ 0) → Backed m edges firsts a a pending touched
   backed_none pending touched full long first blank = record {
     grows = λ u v h. h;
     sound = λ g d s k. k;
@@ -201,17 +200,17 @@ module _ (m : Lists) (n low : ℕ) (labels nexts firsts cells a : List ℕ) wher
     blank = blank;
   }
 
-  pub backed_more : (b c pending touched w next blank : List ℕ) (t : Bool) → Backed m n low labels nexts firsts cells a b pending touched
-      → BackRound m n low labels nexts firsts cells pending b c touched w t (length m.rows) → next ≡ w → ((k : ℕ) → get_or blank k 0 ≡ 0) → Backed m n low labels nexts firsts cells a c next blank
+  pub backed_more : (b c pending touched w next blank : List ℕ) (t : Bool) → Backed m edges firsts a b pending touched
+      → BackRound m edges firsts pending b c touched w t (length m.rows) → next ≡ w → ((k : ℕ) → get_or blank k 0 ≡ 0) → Backed m edges firsts a c next blank
   backed_more b c pending touched w next blank t h d e z = record {
     grows = λ u v x. d.grows u v (h.grows u v x);
     sound = λ g q s x. d.sound g q s (h.sound g q s x);
-    left = λ g q i lt. subst (λ s. Member s (get_or firsts i 0) ⊎ RowWalked m n firsts g cells c i) (sym e) (d.done g q i lt);
+    left = λ g q i lt. subst (λ s. Member s (get_or firsts i 0) ⊎ RowWalked m edges firsts g c i) (sym e) (d.done g q i lt);
     blank = z;
   }
 
-  pub back_saturated : (b c pending touched w : List ℕ) → Backed m n low labels nexts firsts cells a b pending touched
-      → BackRound m n low labels nexts firsts cells pending b c touched w false (length m.rows) → BackSaturated m n low labels nexts firsts cells a c
+  pub back_saturated : (b c pending touched w : List ℕ) → Backed m edges firsts a b pending touched
+      → BackRound m edges firsts pending b c touched w false (length m.rows) → BackSaturated m edges firsts a c
   back_saturated b c pending touched w h d = record {
     grows = λ u v x. d.grows u v (h.grows u v x);
     sound = λ g q s x. d.sound g q s (h.sound g q s x);
@@ -220,33 +219,3 @@ module _ (m : Lists) (n low : ℕ) (labels nexts firsts cells a : List ℕ) wher
       | inr k ↦ k
     ];
   }
-
--- The first good edges, line by line.
-module _ (cells : List ℕ) (n : ℕ) (ahead behind a b : List ℕ) (y : ℕ)
-    (t : Adds a b n n (λ u v. Between cells n ahead behind u v × (v < y))) where
-  pub between_more : (c sources : List ℕ) → IsLine cells n n y sources → Adds b c n n (λ u v. (v ≡ y) × (Member sources u × Member ahead u)) → Member behind y
-      → Adds a c n n (λ u v. Between cells n ahead behind u v × (v < y + 1))
-  between_more c sources l s k =
-      adds_then _ t s (λ u v r. let j = r.1 in (r.0, omega arith))
-      (λ u v r. let same = r.0 in (record { edge = rw same (l.on u r.1.0); source = r.1.1; target = rw same k }, omega arith))
-      (λ u v q. let j = q.1 in elim (cases_eq v y) [
-        | inl same ↦ inr (same, (l.off u (rw same at q.0.edge), q.0.source))
-        | inr ne ↦ inl (q.0, omega arith)
-      ])
-
-  pub between_skip : (Member behind y → ⊥) → Adds a b n n (λ u v. Between cells n ahead behind u v × (v < y + 1))
-  between_skip off =
-      adds_as _ t (λ u v r. let j = r.1 in (r.0, omega arith))
-      (λ u v hu hv q. let j = q.1 in elim (cases_eq v y) [
-        | inl same ↦ absurd (off (rw same at q.0.target))
-        | inr ne ↦ (q.0, omega arith)
-      ])
-
-pub based : (cells : List ℕ) (n : ℕ) (ahead behind a b : List ℕ) (y : ℕ) → n ≤ y → ((k : ℕ) → get_or a k 0 ≡ 0) → Adds a b n n (λ u v. Between cells n ahead behind u v × (v < y)) → Based cells b n ahead behind
-based cells n ahead behind a b y le blank t = record {
-  only = λ u v h. elim (t.sound u v h) [
-    | inl o ↦ absurd (let e = blank (v * n + u) in let k = o.on in omega arith)
-    | inr r ↦ r.0
-  ];
-  each = λ u v k. t.done u v k.edge.source k.edge.target (k, (let j = k.edge.target in omega arith));
-}

@@ -7,40 +7,38 @@ use Rattle.machine.specs.Rows.{pops}
 use Rattle.machine.specs.Lists.{Lists}
 use Rattle.machine.specs.Runs.{Reachable, UsefulRow}
 use Rattle.theory.specs.Graph.{Graph}
+use Rattle.marking.specs.declared.edges.Edges.{Edges}
 use Rattle.marking.specs.Relations.{Member, Holds, IsLine, Share}
 use Rattle.marking.specs.Nodes.{Level, Filled}
 use Rattle.marking.specs.Marks.{row_at, IsMark, Marked, Sets}
 use Rattle.marking.proofs.Cells.{member_in}
 use Rattle.marking.specs.Solving.{Leads, Applies, Solved, Found, FoundAll}
 
-module _ (g : Graph) (n : ℕ) (cells : List ℕ) (r : Row) (q : ℕ) (from : q ≡ r.from) (levels : List ℕ) (k : ℕ) (long : length (pops r) ≡ k)
-    (f : Filled g (Holds cells n) (pops r) q n levels k) (last : List ℕ) (line : IsLine levels n 11 k last) where
+module _ (g : Graph) (n : ℕ) (cells word : List ℕ) (q : ℕ) (levels : List ℕ) (k : ℕ) (long : length word ≡ k)
+    (f : Filled g (Holds cells n) word q n levels k) (last : List ℕ) (line : IsLine levels n 11 k last) where
   abbrev Reads : ℕ → Type 0
-  Reads x = Level g (Holds cells n) (pops r) r.from (length (pops r)) x
+  Reads x = Level g (Holds cells n) word q (length word) x
 
   read_from : (x : ℕ) → Member last x → Reads x
-  read_from x m =
-      subst (λ p. Level g (Holds cells n) (pops r) p (length (pops r)) x) from
-      (subst (λ j. Level g (Holds cells n) (pops r) q j x) (sym long) (f.only k x (omega arith) (line.on x m)))
+  read_from x m = subst (λ j. Level g (Holds cells n) word q j x) (sym long) (f.only k x (omega arith) (line.on x m))
 
   read_of : (x : ℕ) → x < n → Reads x → Member last x
-  read_of x h v =
-      line.off x (f.has k x (omega arith) h (subst (λ j. Level g (Holds cells n) (pops r) q j x) long (subst (λ p. Level g (Holds cells n) (pops r) p (length (pops r)) x) (sym from) v)))
+  read_of x h v = line.off x (f.has k x (omega arith) h (subst (λ j. Level g (Holds cells n) word q j x) long v))
 
   module _ (good sources : List ℕ) (first : ℕ) (l : IsLine good n n first sources) (ahead : List ℕ) (size : length ahead ≡ n) where
-    leads_from : Share last sources → Leads g n cells good r first
+    leads_from : Share last sources → Leads g n cells good word q first
     leads_from (x, a, b) = (x, read_from x a, l.on x b)
 
-    leads_of : Leads g n cells good r first → Share last sources
+    leads_of : Leads g n cells good word q first → Share last sources
     leads_of (x, v, h) = (x, read_of x h.source v, l.off x h)
 
-    applies_from : Share last ahead → Applies g n cells ahead r
+    applies_from : Share last ahead → Applies g n cells ahead word q
     applies_from (x, a, b) = (x, read_from x a, b)
 
-    applies_of : Applies g n cells ahead r → Share last ahead
+    applies_of : Applies g n cells ahead word q → Share last ahead
     applies_of (x, v, b) = let h = member_in ahead x b in (x, read_of x (omega arith) v, b)
 
-    pub found : (u v : Bool) (k : ℕ) → Decides u (Share last sources) → Decides v (Share last ahead) → k ≡ cond u 2 (cond v 1 0) → Found g n cells good ahead r first k
+    pub found : (u v : Bool) (k : ℕ) → Decides u (Share last sources) → Decides v (Share last ahead) → k ≡ cond u 2 (cond v 1 0) → Found g n cells good ahead word q first k
     found true v k a b e = inl (e, leads_from (a.0 refl))
     found false true k a b e = inr (inl (e, λ h. false≢true (a.1 (leads_of h)), applies_from (b.0 refl)))
     found false false k a b e = inr (inr (e, λ h. false≢true (a.1 (leads_of h)), λ h. false≢true (b.1 (applies_of h))))
@@ -50,7 +48,7 @@ useful_reachable : (m : Lists) (r : Row) → UsefulRow m r → Reachable m r
 useful_reachable m r (s, rs, f, e, k) = (s, e.start, rs, e.taken, (f, e.stack, e.run), k)
 
 module _ (m : Lists) (g : Graph) (n : ℕ) (firsts cells good ahead behind : List ℕ) (solved : Solved m g n firsts cells good ahead behind) where
-  is_mark : (i : ℕ) → i < length m.rows → (k : ℕ) → Found g n cells good ahead (row_at m i) (get_or firsts i 0) k → IsMark m (row_at m i) k
+  is_mark : (i : ℕ) → i < length m.rows → (k : ℕ) → Found g n cells good ahead (pops (row_at m i)) (row_at m i).from (get_or firsts i 0) k → IsMark m (row_at m i) k
   is_mark i lt k (inl (e, l)) =
       let u = (solved.useful i lt).1 l in
       record {
@@ -75,7 +73,7 @@ module _ (m : Lists) (g : Graph) (n : ℕ) (firsts cells good ahead behind : Lis
       }
 
   pub marked : (old new : List ℕ) → length m.rows ≤ length old → length new ≡ length old → drop (length m.rows) new ≡ drop (length m.rows) old
-      → FoundAll m g n firsts cells good ahead new (length m.rows) → Sets m old new
+      → ((i : ℕ) → i < length m.rows → Found g n cells good ahead (pops (row_at m i)) (row_at m i).from (get_or firsts i 0) (get_or new i 0)) → Sets m old new
   marked old new room long rest f = record {
     marked = record {
       long = simp length-take (omega arith);
@@ -115,9 +113,9 @@ one_marking m js ks a b =
 pub rest_more : (old new : List ℕ) (i v : ℕ) → drop i new ≡ drop i old → drop (i + 1) (set new i v) ≡ drop (i + 1) old
 rest_more old new i v e = drop-set-lt (i + 1) new i v (omega arith) ∙ sym (drop-drop 1 i new) ∙ ap (drop 1) e ∙ drop-drop 1 i old
 
-pub found_more : (m : Lists) (g : Graph) (n : ℕ) (firsts cells good ahead marks : List ℕ) (i v : ℕ) → i < length marks
-    → FoundAll m g n firsts cells good ahead marks i → Found g n cells good ahead (row_at m i) (get_or firsts i 0) v → FoundAll m g n firsts cells good ahead (set marks i v) (i + 1)
-found_more m g n firsts cells good ahead marks i v lt all here j k =
+pub found_more : (m : Lists) (g : Graph) (edges : Edges) (firsts good ahead marks : List ℕ) (i v : ℕ) → i < length marks
+    → FoundAll m g edges firsts good ahead marks i → Found g edges.nodes.size edges.cells.now good ahead (pops (row_at m i)) (row_at m i).from (get_or firsts i 0) v → FoundAll m g edges firsts good ahead (set marks i v) (i + 1)
+found_more m g edges firsts good ahead marks i v lt all here j k =
     elim (cases_eq j i) [
       | inl same ↦
           let e : get_or (set marks i v) i 0 ≡ v = rw get_or-set_same in

@@ -1,22 +1,22 @@
 -- The nodes that were drawn for a machine lie within the words.
-use Rattle.std.proofs.Common.{◌≡◌, ℕ, ◌+◌, ◌-◌, ◌<◌, ◌≤◌, List, [], ◌∷◌, ◌++◌, length, get_or, sym, refl, ap, ◌∙◌, inl, inr, arith}
+use Rattle.std.proofs.Common.{◌≡◌, ℕ, ◌+◌, ◌-◌, ◌<◌, ◌≤◌, List, [], ◌∷◌, ◌++◌, length, get_or, sym, refl, ap, ◌∙◌, subst, inl, inr, arith}
 use mathlib.Core.List.{Memᴰ}
 use Rattle.std.proofs.lemmas.List.{get_or_append_left, get_or-append_right}
 use Rattle.std.proofs.lemmas.Bool.{cases_lt}
 use Rattle.machine.specs.declared.row.Row.{Row}
 use Rattle.machine.specs.Rows.{pushes}
-use Rattle.machine.specs.Lists.{Lists}
+use Rattle.machine.specs.Lists.{Lists, width_of}
 use Rattle.theory.specs.Layout.{Cell, plain, word_cells, row_cells, Fits}
 use Rattle.theory.proofs.Nodes.{length-word}
 use Rattle.theory.proofs.Useful.{member}
 use Rattle.marking.specs.Marks.{row_at, pushed}
 use Rattle.marking.specs.Drawing.{next_of, DrewRows, base_of}
-use Rattle.marking.specs.Nodes.{Shaped}
-use Rattle.marking.specs.Rounds.{Fit}
+use Rattle.marking.specs.Shapes.{Shaped, Fit}
 use Rattle.marking.proofs.Drafts.{word_cell, cell_past, inner_cell, size}
 use Rattle.marking.proofs.Pushing.{next_small, reach_in}
 use Rattle.marking.proofs.Reaching.{mem_at}
 use Rattle.marking.proofs.Rounding.{row_stands}
+use Rattle.marking.proofs.Sizes.{fits}
 
 -- the next node of each inner node
 rows_next : (rs : List Row) (base : ℕ) → ((r : Row) → Memᴰ r rs → r.to < base) → (y : ℕ) → y < pushed rs → (get_or (row_cells base rs) y (plain 0)).next < base + pushed rs
@@ -41,7 +41,21 @@ rows_next (r ∷ rs) base h y lt =
           omega (arith, e, s)
     ]
 
-module _ (m : Lists) (low n : ℕ) (labels nexts firsts : List ℕ) (d : DrewRows m low labels nexts firsts (length m.rows) n) (fits : Fits m low) where
+-- All rows of the machine were drawn, behind its states, and these are n nodes.
+pub record Laid (m : Lists) (low n : ℕ) (labels nexts firsts : List ℕ) : Type 0 where
+  pub fits : Fits m low
+  pub rows : DrewRows m low labels nexts firsts (length m.rows) n
+  pub size : n ≡ width_of m + pushed m.rows
+
+pub laid : (m : Lists) (low n : ℕ) (labels nexts firsts : List ℕ) → low ≡ width_of m → DrewRows m low labels nexts firsts (length m.rows) n → Laid m low n labels nexts firsts
+laid m low n labels nexts firsts w d =
+    let s = size m low n labels nexts firsts d in
+    record { fits = subst (λ k. Fits m k) (sym w) (fits m); rows = d; size = omega arith }
+
+module _ (m : Lists) (low n : ℕ) (labels nexts firsts : List ℕ) (l : Laid m low n labels nexts firsts) where
+  abbrev d : DrewRows m low labels nexts firsts (length m.rows) n
+  d = l.rows
+
   pub shaped : length labels ≡ n → length nexts ≡ n → Shaped n low labels nexts
   shaped ll ln =
       let s = size m low n labels nexts firsts d in
@@ -51,7 +65,7 @@ module _ (m : Lists) (low n : ℕ) (labels nexts firsts : List ℕ) (d : DrewRow
         low_in = omega arith;
         next_in = λ x lo hi.
             let c = inner_cell m low n labels nexts firsts d x lo hi in
-            let k = rows_next m.rows low fits.to (x - low) (omega arith) in
+            let k = rows_next m.rows low l.fits.to (x - low) (omega arith) in
             let f = cell_past m low x lo in
             let e = c.next_is ∙ ap (λ (x : Cell). x.next) f in
             omega (arith, e, k);
@@ -62,15 +76,11 @@ module _ (m : Lists) (low n : ℕ) (labels nexts firsts : List ℕ) (d : DrewRow
       let s = size m low n labels nexts firsts d in
       record {
         long = long;
-        from = λ i lt. let k = fits.from (row_at m i) (member m.rows i (row_at m i) (row_stands m.rows i lt)) in omega arith;
+        from = λ i lt. let k = l.fits.from (row_at m i) (member m.rows i (row_at m i) (row_stands m.rows i lt)) in omega arith;
         first = λ i lt.
-            let k = fits.to (row_at m i) (member m.rows i (row_at m i) (row_stands m.rows i lt)) in
+            let k = l.fits.to (row_at m i) (member m.rows i (row_at m i) (row_stands m.rows i lt)) in
             let t = next_small (base_of m low i) (row_at m i).to (length (pushes (row_at m i))) n (omega arith) (omega (arith, reach_in m low i lt)) in
             omega (arith, d.first i lt, t);
+        starts = λ i lt. omega (arith, l.fits.starts (get_or m.starts i 0) (mem_at m.starts i lt));
+        accepts = λ i lt. omega (arith, l.fits.accepts (get_or m.accepts i 0) (mem_at m.accepts i lt));
       }
-
-  pub starts_in : (i : ℕ) → i < length m.starts → get_or m.starts i 0 < n
-  starts_in i lt = let s = size m low n labels nexts firsts d in omega (arith, fits.starts (get_or m.starts i 0) (mem_at m.starts i lt))
-
-  pub accepts_in : (i : ℕ) → i < length m.accepts → get_or m.accepts i 0 < n
-  accepts_in i lt = let s = size m low n labels nexts firsts d in omega (arith, fits.accepts (get_or m.accepts i 0) (mem_at m.accepts i lt))

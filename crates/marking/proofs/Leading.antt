@@ -1,36 +1,36 @@
 -- A level from the one before, node by node.
-use Rattle.std.proofs.Common.{◌≡◌, ℕ, ◌+◌, ◌≤◌, List, get_or, inl, inr, ⊎_elim, arith}
+use Rattle.std.proofs.Common.{◌≡◌, ℕ, ◌+◌, ◌<◌, ◌≤◌, List, get_or, inl, inr, ⊎_elim, arith}
 use Rattle.std.proofs.lemmas.Bool.{cases_eq}
-use Rattle.marking.specs.Relations.{On, Holds, Adds}
-use Rattle.marking.specs.Nodes.{Leads}
+use Rattle.marking.specs.declared.edges.Edges.{Edges}
+use Rattle.marking.specs.Relations.{Adds}
+use Rattle.marking.specs.Nodes.{Joins, GoesOn, Leads}
 use Rattle.marking.proofs.Cells.{adds_then, adds_as}
 
-module _ (cells : List ℕ) (n low : ℕ) (labels nexts : List ℕ) (label : ℕ) (a b : List ℕ) (j x : ℕ)
-    (t : Adds a b n 11 (λ u v. (v ≡ j + 1) × Leads cells n low labels nexts label a j x u)) where
+module _ (edges : Edges) (label : ℕ) (a b : List ℕ) (j x : ℕ)
+    (t : Adds a b edges.nodes.size 11 (λ u v. (v ≡ j + 1) × Leads edges label a j x u)) where
   -- line j is as it was
-  as_before : (z : ℕ) → On b n 11 z j → On a n 11 z j
-  as_before z h = ⊎_elim (λ k. k) (λ r. absurd (let k = r.0 in omega arith)) (t.sound z j h)
+  as_before : {z : ℕ} → GoesOn edges.nodes label b j z → GoesOn edges.nodes label a j z
+  as_before {z} h = record { labelled = h.labelled; onward = ⊎_elim (λ k. k) (λ r. absurd (let k = r.0 in omega arith)) (t.sound (get_or edges.nodes.nexts.now z 0) j h.onward) }
 
-  higher : {u : ℕ} → Leads cells n low labels nexts label a j x u → Leads cells n low labels nexts label a j (x + 1) u
-  higher l = record { node = l.node; above = l.above; below = (let k = l.below in omega arith); labelled = l.labelled; onward = l.onward; before = l.before }
+  within : {h k u : ℕ} (l : Leads edges label a j h u) → l.node < k → Leads edges label a j k u
+  within l lt = record { node = l.node; above = l.above; below = lt; on = l.on; before = l.before }
 
-  lower : {u : ℕ} (l : Leads cells n low labels nexts label a j (x + 1) u) → (l.node ≡ x → ⊥) → Leads cells n low labels nexts label a j x u
-  lower l ne = record { node = l.node; above = l.above; below = (let k = l.below in omega arith); labelled = l.labelled; onward = l.onward; before = l.before }
-
-  pub leads_more : (c : List ℕ) → Adds b c n 11 (λ u v. (v ≡ j + 1) × Holds cells n u x) → low ≤ x → get_or labels x 0 ≡ label → On b n 11 (get_or nexts x 0) j
-      → Adds a c n 11 (λ u v. (v ≡ j + 1) × Leads cells n low labels nexts label a j (x + 1) u)
-  leads_more c s l e o =
-      adds_then _ t s (λ u v r. (r.0, higher r.1))
-      (λ u v r. (r.0, record { node = x; above = l; below = omega arith; labelled = e; onward = as_before (get_or nexts x 0) o; before = r.1 }))
-      (λ u v q. elim (cases_eq q.1.node x) [
+  pub leads_more : (c : List ℕ) → Adds b c edges.nodes.size 11 (λ u v. (v ≡ j + 1) × Joins edges u x) → edges.nodes.low ≤ x → GoesOn edges.nodes label b j x
+      → Adds a c edges.nodes.size 11 (λ u v. (v ≡ j + 1) × Leads edges label a j (x + 1) u)
+  leads_more c s l o =
+      adds_then _ t s (λ u v r. let k = r.1.below in (r.0, within r.1 (omega arith)))
+      (λ u v r. (r.0, record { node = x; above = l; below = omega arith; on = as_before o; before = r.1 }))
+      (λ u v q. let k = q.1.below in elim (cases_eq q.1.node x) [
         | inl same ↦ inr (q.0, rw same at q.1.before)
-        | inr ne ↦ inl (q.0, lower q.1 ne)
+        | inr ne ↦ inl (q.0, within q.1 (omega arith))
       ])
 
-  pub leads_skip : (get_or labels x 0 ≡ label → On b n 11 (get_or nexts x 0) j → ⊥) → Adds a b n 11 (λ u v. (v ≡ j + 1) × Leads cells n low labels nexts label a j (x + 1) u)
+  pub leads_skip : (GoesOn edges.nodes label b j x → ⊥) → Adds a b edges.nodes.size 11 (λ u v. (v ≡ j + 1) × Leads edges label a j (x + 1) u)
   leads_skip off =
-      adds_as _ t (λ u v r. (r.0, higher r.1))
-      (λ u v hu hv q. elim (cases_eq q.1.node x) [
-        | inl same ↦ absurd (off (rw same at q.1.labelled) (t.grows (get_or nexts x 0) j (rw same at q.1.onward)))
-        | inr ne ↦ (q.0, lower q.1 ne)
+      adds_as _ t (λ u v r. let k = r.1.below in (r.0, within r.1 (omega arith)))
+      (λ u v hu hv q. let k = q.1.below in elim (cases_eq q.1.node x) [
+        | inl same ↦
+            let o : GoesOn edges.nodes label a j x = rw same at q.1.on in
+            absurd (off (record { labelled = o.labelled; onward = t.grows (get_or edges.nodes.nexts.now x 0) j o.onward }))
+        | inr ne ↦ (q.0, within q.1 (omega arith))
       ])

@@ -4,73 +4,80 @@ use mathlib.Core.Option.{Option, some, some-injective}
 use lib.ListN.{get_elem?}
 use Rattle.std.proofs.lemmas.Bool.{cases_eq}
 use Rattle.theory.specs.Graph.{Graph}
-use Rattle.marking.specs.Relations.{Member, On, Holds, IsLine, Steps}
-use Rattle.marking.specs.Nodes.{Shaped, Drawn, Filled}
+use Rattle.marking.specs.declared.edges.Edges.{Edges}
+use Rattle.marking.specs.Relations.{Member, Holds, IsLine, Steps}
+use Rattle.marking.specs.Nodes.{Drawn, Joins, GoesOn, Filled}
 use Rattle.marking.specs.Ways.{Passed, Inside, OnWay, Walked, Leaves}
 use Rattle.marking.proofs.Filling.{symbol_at}
 use Rattle.marking.proofs.Lines.{steps_then, steps_as}
 use Rattle.marking.proofs.Walking.{read_in}
 
-module _ (cells : List ℕ) (n low : ℕ) (labels nexts : List ℕ) (label : ℕ) (levels ways : List ℕ) (j x : ℕ) where
+module _ (edges : Edges) (label : ℕ) (levels ways : List ℕ) (j x : ℕ) where
+  abbrev n : ℕ
+  n = edges.nodes.size
+
   abbrev Leave : ℕ → ℕ → ℕ → Type 0
-  Leave = Leaves cells n low labels nexts label levels ways j
+  Leave = Leaves edges label levels ways j
 
   within : {h k u v : ℕ} → Leave h u v → v < k → Leave k u v
-  within l lt = record { above = l.above; below = lt; labelled = l.labelled; level = l.level; way = l.way; before = l.before }
+  within l lt = record { above = l.above; below = lt; on = l.on; way = l.way; before = l.before }
 
   higher : (u v : ℕ) → Leave x u v → Leave (x + 1) u v
   higher u v l = within l (let k = l.below in omega arith)
 
   module _ (a b : List ℕ) (t : Bool) (h : Steps a b n (Leave x) t) where
-    pub leaves_more : (c sources passed : List ℕ) (r : Bool) → IsLine cells n n x sources → IsLine ways n 11 (j + 1) passed
+    pub leaves_more : (c sources passed : List ℕ) (r : Bool) → IsLine edges.cells.now n n x sources → IsLine ways n 11 (j + 1) passed
         → Steps b c n (λ u v. (v ≡ x) × (Member sources u × Member passed u)) r
-        → low ≤ x → get_or labels x 0 ≡ label → On levels n 11 (get_or nexts x 0) j → Steps a c n (Leave (x + 1)) (t || r)
-    leaves_more c sources passed r ls lp s lo e o =
+        → edges.nodes.low ≤ x → GoesOn edges.nodes label levels j x → Steps a c n (Leave (x + 1)) (t || r)
+    leaves_more c sources passed r ls lp s lo o =
         steps_then _ h s higher
-        (λ u v q. let same = q.0 in subst (λ y. Leave (x + 1) u y) (sym same) (record { above = lo; below = omega arith; labelled = e; level = o; way = lp.on u q.1.1; before = ls.on u q.1.0 }))
+        (λ u v q. let same = q.0 in subst (λ y. Leave (x + 1) u y) (sym same) (record { above = lo; below = omega arith; on = o; way = lp.on u q.1.1; before = ls.on u q.1.0 }))
         (λ u v l. let k = l.below in elim (cases_eq v x) [
           | inl same ↦ inr (same, (ls.off u (rw same at l.before), lp.off u l.way))
           | inr ne ↦ inl (within l (omega arith))
         ])
 
-    pub leaves_skip : (get_or labels x 0 ≡ label → On levels n 11 (get_or nexts x 0) j → ⊥) → Steps a b n (Leave (x + 1)) t
+    pub leaves_skip : (GoesOn edges.nodes label levels j x → ⊥) → Steps a b n (Leave (x + 1)) t
     leaves_skip off =
         steps_as _ h higher
         (λ u v hu hv l. let k = l.below in elim (cases_eq v x) [
-          | inl same ↦ absurd (off (rw same at l.labelled) (rw same at l.level))
+          | inl same ↦ absurd (off (rw same at l.on))
           | inr ne ↦ within l (omega arith)
         ])
 
 -- an edge that reads one of the first k symbols
-pub record LeavesOne (cells : List ℕ) (n low : ℕ) (labels nexts symbols levels ways : List ℕ) (k u v : ℕ) : Type 0 where
+pub record LeavesOne (edges : Edges) (symbols levels ways : List ℕ) (k u v : ℕ) : Type 0 where
   pub place : ℕ
   pub early : place < k
-  pub leaves : Leaves cells n low labels nexts (get_or symbols place 0) levels ways place n u v
+  pub leaves : Leaves edges (get_or symbols place 0) levels ways place edges.nodes.size u v
 
-module _ (cells : List ℕ) (n low : ℕ) (labels nexts symbols levels ways : List ℕ) where
+module _ (edges : Edges) (symbols levels ways : List ℕ) where
+  abbrev size : ℕ
+  size = edges.nodes.size
+
   abbrev One : ℕ → ℕ → ℕ → Type 0
-  One = LeavesOne cells n low labels nexts symbols levels ways
+  One = LeavesOne edges symbols levels ways
 
   pub one_none : (u v : ℕ) → One 0 u v → ⊥
   one_none u v l = let k = l.early in omega arith
 
-  pub one_more : (a b c : List ℕ) (t r : Bool) (j label : ℕ) → label ≡ get_or symbols j 0 → Steps a b n (One j) t → Steps b c n (Leaves cells n low labels nexts label levels ways j n) r → Steps a c n (One (j + 1)) (t || r)
+  pub one_more : (a b c : List ℕ) (t r : Bool) (j label : ℕ) → label ≡ get_or symbols j 0 → Steps a b size (One j) t → Steps b c size (Leaves edges label levels ways j size) r → Steps a c size (One (j + 1)) (t || r)
   one_more a b c t r j label e h s =
       steps_then _ h s
       (λ u v l. record { place = l.place; early = (let k = l.early in omega arith); leaves = l.leaves })
       (λ u v l. record { place = j; early = omega arith; leaves = rw e at l })
       (λ u v l. let k = l.early in elim (cases_eq l.place j) [
-        | inl same ↦ inr (rw e (subst (λ p. Leaves cells n low labels nexts (get_or symbols p 0) levels ways p n u v) same l.leaves))
+        | inl same ↦ inr (rw e (subst (λ p. Leaves edges (get_or symbols p 0) levels ways p size u v) same l.leaves))
         | inr ne ↦ inl (record { place = l.place; early = omega arith; leaves = l.leaves })
       ])
 
-  module _ (g : Graph) (d : Drawn g n low labels nexts) (shape : Shaped n low labels nexts) (old : List ℕ) (q top k : ℕ)
+  module _ (g : Graph) (d : Drawn g edges.nodes) (old : List ℕ) (q top k : ℕ)
       (long : length (take k symbols) ≡ k) (room : k ≤ length symbols)
-      (f : Filled g (Holds cells n) (take k symbols) q n levels k) (w : Walked g (Holds cells n) (Holds old n) (take k symbols) q top n ways 0) where
+      (f : Filled g (Joins edges) (take k symbols) q size levels k) (w : Walked g (Joins edges) (Holds old size) (take k symbols) q top size ways 0) where
     abbrev word : List ℕ
     word = take k symbols
 
-    inside : (u v : ℕ) → One k u v → Inside g (Holds cells n) (Holds old n) word q top u v
+    inside : (u v : ℕ) → One k u v → Inside g (Joins edges) (Holds old size) word q top u v
     inside u v o =
         let j : ℕ = o.place in
         let lt = o.early in
@@ -80,13 +87,13 @@ module _ (cells : List ℕ) (n low : ℕ) (labels nexts symbols levels ways : Li
         let at : get_elem? word j ≡ some (get_or symbols j 0) = symbol_at symbols k j lt (omega arith) in
         record {
           place = j;
-          passed = subst (λ i. Passed g (Holds cells n) (Holds old n) word q top i u) (add-one j) (w.only (j + 1) u (omega arith) l.way);
+          passed = subst (λ i. Passed g (Joins edges) (Holds old size) word q top i u) (add-one j) (w.only (j + 1) u (omega arith) l.way);
           step = l.before;
-          reads = record { inner = d.inner_of v lo hi; label = at ∙ ap {B = Option ℕ} some (sym l.labelled ∙ d.label v lo hi) };
-          level = f.only j (g.next v) (omega arith) (rw (d.next v lo hi) at l.level);
+          reads = record { inner = d.inner_of v lo hi; label = at ∙ ap {B = Option ℕ} some (sym l.on.labelled ∙ d.label v lo hi) };
+          level = f.only j (g.next v) (omega arith) (rw (d.next v lo hi) at l.on.onward);
         }
 
-    outside : (u v : ℕ) → Inside g (Holds cells n) (Holds old n) word q top u v → One k u v
+    outside : (u v : ℕ) → Inside g (Joins edges) (Holds old size) word q top u v → One k u v
     outside u v i =
         let j : ℕ = i.place in
         let lt = read_in word j (g.label v) i.reads.label in
@@ -99,15 +106,17 @@ module _ (cells : List ℕ) (n low : ℕ) (labels nexts symbols levels ways : Li
           leaves = record {
             above = lo;
             below = hi;
-            labelled = d.label v lo hi ∙ some-injective (g.label v) (get_or symbols j 0) (sym i.reads.label ∙ at);
-            level = rw to (f.has j (g.next v) (omega arith) (rw to at (shape.next_in v lo hi)) i.level);
-            way = w.has (j + 1) u (omega arith) i.step.source (subst (λ s. Passed g (Holds cells n) (Holds old n) word q top s u) (sym (add-one j)) i.passed);
+            on = record {
+              labelled = d.label v lo hi ∙ some-injective (g.label v) (get_or symbols j 0) (sym i.reads.label ∙ at);
+              onward = rw to (f.has j (g.next v) (omega arith) (rw to at (edges.nodes.shaped.next_in v lo hi)) i.level);
+            };
+            way = w.has (j + 1) u (omega arith) i.step.source (subst (λ s. Passed g (Joins edges) (Holds old size) word q top s u) (sym (add-one j)) i.passed);
             before = i.step;
           };
         }
 
-    pub all_ways : (a b c : List ℕ) (t r : Bool) (sources passed : List ℕ) → IsLine cells n n q sources → IsLine ways n 11 0 passed
-        → Steps a b n (One k) t → Steps b c n (λ u v. (v ≡ q) × (Member sources u × Member passed u)) r → Steps a c n (OnWay g (Holds cells n) (Holds old n) word q top) (t || r)
+    pub all_ways : (a b c : List ℕ) (t r : Bool) (sources passed : List ℕ) → IsLine edges.cells.now size size q sources → IsLine ways size 11 0 passed
+        → Steps a b size (One k) t → Steps b c size (λ u v. (v ≡ q) × (Member sources u × Member passed u)) r → Steps a c size (OnWay g (Joins edges) (Holds old size) word q top) (t || r)
     all_ways a b c t r sources passed ls lp h s =
         steps_then _ h s (λ u v o. inl (inside u v o))
         (λ u v p. inr (record { end = p.0; passed = w.only 0 u (omega arith) (lp.on u p.1.1); step = ls.on u p.1.0 }))

@@ -8,7 +8,6 @@ pub mod Words
 pub mod Rounding
 pub mod Reaching
 pub mod Sinking
-pub mod Symbols
 pub mod Pushing
 pub mod Drafts
 pub mod Walking
@@ -21,3 +20,4 @@ pub mod Judged
 pub mod Flagging
 pub mod Layouts
 pub mod Splitting
+pub mod Stepping

@@ -1,50 +1,11 @@
 -- Steps of a relation by whole lines.
-use Rattle.std.proofs.Common.{◌≡◌, ℕ, zero, suc, ◌+◌, ◌*◌, ◌/◌, ◌%◌, ◌<◌, ◌≤◌, Bool, true, false, ◌||◌, ◌⊎◌, List, [], ◌∷◌, length, get_or, set, sym, refl, ap, ◌∙◌, inl, inr, ⊎_elim, arith}
+use Rattle.std.proofs.Common.{◌≡◌, ℕ, zero, suc, ◌+◌, ◌*◌, ◌/◌, ◌%◌, ◌<◌, ◌≤◌, Bool, false, ◌||◌, ◌⊎◌, List, [], ◌∷◌, length, get_or, sym, refl, ◌∙◌, inl, inr, arith}
 use Rattle.std.proofs.lemmas.Nat.{div_below, mod_below, div-add-mod'}
-use Rattle.std.proofs.lemmas.List.{get_or_past, get_or-set_same, get_or-set_other}
-use Rattle.std.proofs.lemmas.Bool.{cases_eq, cases_lt, cases_Bool, or_parts, false≢true, true≢false}
+use Rattle.std.proofs.lemmas.List.{get_or_past}
+use Rattle.std.proofs.lemmas.Bool.{cases_eq, cases_lt, cases_Bool, or_parts, false≢true}
 use Rattle.std.proofs.lemmas.Bool.Decides.{nat_tests}
-use Rattle.marking.specs.Relations.{Member, Holds, Adds, Preorder, Down, AllBefore, SomeNot, Onto, BothBefore, BothNot, Steps, Touches, zeros}
+use Rattle.marking.specs.Relations.{Member, Holds, Adds, Preorder, SomeNot, Onto, BothNot, Steps, Touches, zeros}
 use Rattle.marking.proofs.Cells.{adds_then, adds_as, member_in}
-
-module _ (a b ss : List ℕ) (n f y : ℕ) where
-  -- line y is still as it was
-  unchanged : Adds a b n n (λ u v. Onto a n ss f u v × (v < y)) → Holds b n f y → Holds a n f y
-  unchanged t h = ⊎_elim (λ k. k) (λ r. absurd (let k = r.1 in omega arith)) (t.sound f y h)
-
-  pub spread_more : (c : List ℕ) → Adds a b n n (λ u v. Onto a n ss f u v × (v < y)) → Adds b c n n (λ u v. (v ≡ y) × Member ss u) → Holds b n f y → Adds a c n n (λ u v. Onto a n ss f u v × (v < y + 1))
-  spread_more c t s h =
-      let k = unchanged t h in
-      adds_then _ t s (λ u v r. let j = r.1 in (r.0, omega arith)) (λ u v r. let j = r.0 in ((r.1, rw j k), omega arith))
-      (λ u v q. let j = q.1 in elim (cases_eq v y) [ inl same ↦ inr (same, q.0.0) | inr ne ↦ inl (q.0, omega arith) ])
-
-  pub spread_skip : Adds a b n n (λ u v. Onto a n ss f u v × (v < y)) → (Holds b n f y → ⊥) → Adds a b n n (λ u v. Onto a n ss f u v × (v < y + 1))
-  spread_skip t off =
-      adds_as _ t (λ u v r. let j = r.1 in (r.0, omega arith))
-      (λ u v hu hv q. let j = q.1 in elim (cases_eq v y) [ inl same ↦ absurd (off (rw same at (t.grows f v q.0.1))) | inr ne ↦ (q.0, omega arith) ])
-
--- nothing is added where all stand there already
-pub onto_there : (a : List ℕ) (n : ℕ) (ss : List ℕ) (f : ℕ) → Preorder a n → AllBefore a n ss f → Adds a a n n (Onto a n ss f)
-onto_there a n ss f p all = record {
-  grows = λ u v h. h;
-  sound = λ u v h. inl h;
-  done = λ u v hu hv r. p.transitive u f v (all u r.0) r.1;
-}
-
-pub preorder_onto : (a b : List ℕ) (n : ℕ) (ss : List ℕ) (f : ℕ) → Preorder a n → Down a n ss → Adds a b n n (Onto a n ss f) → Preorder b n
-preorder_onto a b n ss f p d t = record {
-  reflexive = λ x h. t.grows x x (p.reflexive x h);
-  transitive = λ x y z h k. elim (t.sound x y h) [
-    | inl h₁ ↦ elim (t.sound y z k) [
-      | inl k₁ ↦ t.grows x z (p.transitive x y z h₁ k₁)
-      | inr k₁ ↦ t.done x z h.source k.target (d x y h₁ k₁.0, k₁.1)
-    ]
-    | inr h₁ ↦ elim (t.sound y z k) [
-      | inl k₁ ↦ t.done x z h.source k.target (h₁.0, p.transitive f y z h₁.1 k₁)
-      | inr k₁ ↦ t.done x z h.source k.target (h₁.0, k₁.1)
-    ]
-  ];
-}
 
 zeros_le : (xs ys : List ℕ) → length xs ≡ length ys → ((k : ℕ) → 0 < get_or xs k 0 → 0 < get_or ys k 0) → zeros ys ≤ zeros xs
 zeros_le [] [] e h = omega arith
@@ -103,14 +64,6 @@ fewer_onto a b n ss f p t e d l hf (u, m, off) =
     let hu : u < n = let k = member_in ss u m in omega arith in
     fewer t e d u f hu hf (m, p.reflexive f hf) off
 
--- nothing is added where each node of both sets stands there already
-pub both_there : (a : List ℕ) (n : ℕ) (ss ts : List ℕ) (y : ℕ) → BothBefore a n ss ts y → Adds a a n n (λ u v. (v ≡ y) × (Member ss u × Member ts u))
-both_there a n ss ts y all = record {
-  grows = λ u v h. h;
-  sound = λ u v h. inl h;
-  done = λ u v hu hv r. let e = r.0 in rw e (all u r.1.0 r.1.1);
-}
-
 pub fewer_both : (a b : List ℕ) (n : ℕ) (ss ts : List ℕ) (y : ℕ) → Adds a b n n (λ u v. (v ≡ y) × (Member ss u × Member ts u)) → length a ≡ n * n → length b ≡ length a → length ss ≡ n → y < n → BothNot a n ss ts y → zeros b < zeros a
 fewer_both a b n ss ts y t e d l hy (u, m, k, off) =
     let hu : u < n = let i = member_in ss u m in omega arith in
@@ -146,19 +99,6 @@ steps_none a n R off = record {
 
 pub touches_none : (a : List ℕ) (n : ℕ) (s : List ℕ) → Touches a a n s s false
 touches_none a n s = record { keeps = λ y m. m; still = λ u v h. inl h; quiet = λ e. refl }
-
--- one line more is touched
-pub touches_line : (a b : List ℕ) (n : ℕ) (s : List ℕ) (y : ℕ) (R : ℕ → Type 0) → y < length s → Adds a b n n (λ u v. (v ≡ y) × R u) → Touches a b n s (set s y 1) true
-touches_line a b n s y R lt t =
-    let here : get_or (set s y 1) y 0 ≡ 1 = get_or-set_same s y 1 0 lt in
-    record {
-      keeps = λ z m. elim (cases_eq z y) [ inl same ↦ (let e = ap (λ x. get_or (set s y 1) x 0) same in omega arith) | inr ne ↦ rw get_or-set_other m ];
-      still = λ u v h. elim (t.sound u v h) [
-        | inl o ↦ inl o
-        | inr r ↦ (let e = ap (λ x. get_or (set s y 1) x 0) r.0 in inr (omega arith))
-      ];
-      quiet = λ e. absurd (true≢false e);
-    }
 
 pub touches_then : {a b c : List ℕ} {n : ℕ} {s t w : List ℕ} {x y : Bool} → Touches a b n s t x → Touches b c n t w y → Touches a c n s w (x || y)
 touches_then {x = x} {y = y} p q = record {

@@ -1,11 +1,16 @@
 -- The nodes of the rows, one row after the other.
-use Rattle.std.proofs.Common.{◌≡◌, ℕ, zero, suc, ◌+◌, ◌<◌, ◌≤◌, ◌⊎◌, List, [], ◌∷◌, ◌++◌, length, get_or, take, drop, set, ap, ◌∙◌, subst, inl, inr, arith}
+use Rattle.std.proofs.Common.{◌≡◌, ℕ, zero, suc, ◌+◌, ◌<◌, ◌≤◌, ◌⊎◌, List, [], ◌∷◌, ◌++◌, length, get_or, take, drop, set, sum_by, sym, refl, ap, ◌∙◌, subst, inl, inr, arith}
 use Rattle.std.proofs.lemmas.List.{take_more, take-take, take-append-drop, get_or-set_same, get_or-set_other}
+use Rattle.std.proofs.lemmas.List.Sums.{sum_by-cons}
 use Rattle.std.proofs.lemmas.Bool.{cases_lt}
+use Rattle.std.specs.List.{range_with_len}
 use Rattle.machine.specs.declared.row.Row.{Row}
-use Rattle.machine.specs.Rows.{zero_row, pushes}
-use Rattle.machine.specs.Lists.{Lists}
+use Rattle.machine.specs.Rows.{zero_row, lawful_row, pushes}
+use Rattle.machine.specs.Lists.{Lists, Few, Limits}
 use Rattle.marking.specs.Marks.{row_at, pushed}
+use Rattle.marking.proofs.Rounding.{all_at}
+use Rattle.marking.proofs.Words.{both}
+use Rattle.marking.proofs.Sizes.{pushed_small}
 use Rattle.marking.specs.Drawing.{next_of, WordDrawn, DrewWord, base_of, DrewRows}
 
 pushed-append : (rs ss : List Row) → pushed (rs ++ ss) ≡ pushed rs + pushed ss
@@ -25,9 +30,34 @@ pushed_more rs i lt =
     let p = pushed-append (take i rs) (get_or rs i zero_row ∷ []) in
     omega arith
 
+-- the lengths that the rows tell, place by place
+by_place : (f : ℕ → ℕ) (a : ℕ) (rs : List Row) → ((k : ℕ) → k < length rs → f (a + k) ≡ length (pushes (get_or rs k zero_row))) → sum_by f (range_with_len a (length rs)) ≡ pushed rs
+by_place f a [] h = refl
+by_place f a (r ∷ rs) h =
+    let first = h 0 (omega arith) in
+    let e : a + 0 ≡ a = omega arith in
+    let rest = by_place f (a + 1) rs (λ k lt. let e : a + 1 + k ≡ a + suc k = omega arith in ap f e ∙ h (suc k) (omega arith)) in
+    omega (arith, sum_by-cons f a (range_with_len (a + 1) (length rs)), ap f e, first, rest)
+
+-- so a machine's symbols are counted, and they are few
+pub pushed_counted : (m : Lists) → Few m → Limits m → (sum_by (λ i. (row_at m i).pushed.len) (range_with_len 0 (length m.rows)) ≡ pushed m.rows) × (pushed m.rows ≤ 10240)
+pushed_counted m f l = (
+  by_place _ 0 m.rows (λ k lt.
+      let e : 0 + k ≡ k = omega arith in
+      let w = (both (row_at m k) (all_at lawful_row m.rows zero_row k l.rows lt)).1 in
+      ap (λ i. (row_at m i).pushed.len) e ∙ sym w.long),
+  omega (arith, pushed_small m.rows l.rows, f.rows),
+)
+
 pub next_small : (base prev c b : ℕ) → prev < b → base + c ≤ b → next_of base prev c < b
 next_small base prev zero b h k = h
 next_small base prev (suc c) b h k = omega arith
+
+-- the word that the row at a place pushes
+pub pushed_here : (m : Lists) → Limits m → (r : Row) (i : ℕ) → r ≡ row_at m i → i < length m.rows → (r.pushed.len ≤ 10) × (r.pushed.len ≡ length (pushes r)) × (r.pushed.len ≡ length (pushes (row_at m i)))
+pushed_here m l r i e lt =
+    let w = (both r (ap lawful_row e ∙ all_at lawful_row m.rows zero_row i l.rows lt)).1 in
+    (w.few, sym w.long, sym w.long ∙ ap (λ (q : Row). length (pushes q)) e)
 
 -- the word of a row, under the row's own names
 pub as_row : (r q : Row) → r ≡ q → (base prev count last : ℕ) (labels nexts labels' nexts' : List ℕ) → prev ≡ r.to → count ≡ length (pushes r)
@@ -53,9 +83,6 @@ module _ (m : Lists) (low : ℕ) where
       let e = ap pushed (take-take j i m.rows le) in
       let t = pushed_take j (take i m.rows) in
       omega arith
-
-  pub drew_no_row : (labels nexts firsts : List ℕ) → DrewRows m low labels nexts firsts 0 low
-  drew_no_row labels nexts firsts = record { words = λ i lt. absurd (omega arith); first = λ i lt. absurd (omega arith); reached = omega arith }
 
   module _ (labels nexts firsts labels' nexts' : List ℕ) (i base last : ℕ) (d : DrewRows m low labels nexts firsts i base) (lt : i < length m.rows)
       (w : DrewWord (pushes (row_at m i)) base (row_at m i).to labels nexts labels' nexts' (length (pushes (row_at m i))) last) where

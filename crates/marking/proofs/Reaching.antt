@@ -5,13 +5,13 @@ use Rattle.std.proofs.lemmas.Bool.{cases_eq, cases_Bool, false≢true, true≢fa
 use Rattle.theory.specs.Graph.{Graph, Trail, here, edge, down}
 use Rattle.theory.proofs.Trails.{join}
 use Rattle.marking.specs.Relations.{Member, Holds, Gains, Preorder, Down, zeros}
-use Rattle.marking.specs.Nodes.{Drawn}
+use Rattle.marking.specs.declared.edges.Edges.{Edges}
+use Rattle.marking.specs.Nodes.{Drawn, Joins}
 use Rattle.marking.specs.Reach.{Behind, end, along, lower, Rises, BeforeOne, IsBehind}
-use Rattle.marking.proofs.Cells.{gains_then}
 use Rattle.marking.proofs.Lines.{zeros_lt}
 
-module _ (cells : List ℕ) (n low : ℕ) (labels nexts : List ℕ) (order : Preorder cells n) where
-  pub rises_none : (a : List ℕ) (k : ℕ) → k ≤ low → Down cells n a → Rises cells n low labels nexts a a false k
+module _ (edges : Edges) where
+  pub rises_none : (a : List ℕ) (k : ℕ) → k ≤ edges.nodes.low → Down edges.cells.now edges.nodes.size a → Rises edges a a false k
   rises_none a k h d = record {
     grows = λ z m. m;
     down = d;
@@ -21,8 +21,8 @@ module _ (cells : List ℕ) (n low : ℕ) (labels nexts : List ℕ) (order : Pre
     closed = λ e x lo hi m. absurd (omega arith);
   }
 
-  module _ (a b : List ℕ) (t : Bool) (x : ℕ) (h : Rises cells n low labels nexts a b t x) where
-    pub rises_skip : (Member b (get_or nexts x 0) → Member b x) → Rises cells n low labels nexts a b t (x + 1)
+  module _ (a b : List ℕ) (t : Bool) (x : ℕ) (h : Rises edges a b t x) where
+    pub rises_skip : (Member b (get_or edges.nodes.nexts.now x 0) → Member b x) → Rises edges a b t (x + 1)
     rises_skip s = record {
       grows = h.grows;
       down = h.down;
@@ -35,33 +35,25 @@ module _ (cells : List ℕ) (n low : ℕ) (labels nexts : List ℕ) (order : Pre
       ];
     }
 
-    pub rises_more : (c : List ℕ) → Gains b c (λ z. Holds cells n z x) → length c ≡ length b → low ≤ x → x < n → length b ≡ n → Member b (get_or nexts x 0) → get_or b x 0 ≡ 0 → Rises cells n low labels nexts a c true (x + 1)
+    pub rises_more : (c : List ℕ) → Gains b c (λ z. Joins edges z x) → length c ≡ length b → edges.nodes.low ≤ x → x < edges.nodes.size → length b ≡ edges.nodes.size → Member b (get_or edges.nodes.nexts.now x 0) → get_or b x 0 ≡ 0 → Rises edges a c true (x + 1)
     rises_more c s len lo hi long m off = record {
       grows = λ z k. s.grows z (h.grows z k);
       down = λ u z e k. elim (s.sound z k) [
         | inl o ↦ s.grows u (h.down u z e o)
-        | inr o ↦ s.done u (order.transitive u z x e o)
+        | inr o ↦ s.done u (edges.order.transitive u z x e o)
       ];
       sound = λ g w z k. elim (s.sound z k) [
         | inl o ↦ h.sound g w z o
         | inr o ↦
-            let next : Behind g (Holds cells n) (Member a) (g.next x) = subst (λ y. Behind g (Holds cells n) (Member a) y) (w.next x lo hi) (h.sound g w (get_or nexts x 0) m) in
+            let next : Behind g (Joins edges) (Member a) (g.next x) = subst (λ y. Behind g (Joins edges) (Member a) y) (w.next x lo hi) (h.sound g w (get_or edges.nodes.nexts.now x 0) m) in
             along o (lower (w.inner_of x lo hi) next)
       ];
       same = λ e. absurd (true≢false e);
       fewer = λ e.
-          let less = zeros_lt b c (sym len) s.grows x off (s.done x (order.reflexive x hi)) in
+          let less = zeros_lt b c (sym len) s.grows x off (s.done x (edges.order.reflexive x hi)) in
           elim (cases_Bool t) [ inl y ↦ let f = h.fewer y in omega arith | inr f ↦ let q = ap zeros (h.same f) in omega arith ];
       closed = λ e. absurd (true≢false e);
     }
-
-pub before_none : (cells : List ℕ) (n : ℕ) (ss a : List ℕ) → Gains a a (BeforeOne cells n ss 0)
-before_none cells n ss a = record { grows = λ z m. m; sound = λ z m. inl m; done = λ z (i, h, k). absurd (omega arith) }
-
-pub before_more : (cells : List ℕ) (n : ℕ) (ss a b : List ℕ) {i : ℕ} → Gains a b (BeforeOne cells n ss i) → (c : List ℕ) → Gains b c (λ z. Holds cells n z (get_or ss i 0)) → Gains a c (BeforeOne cells n ss (i + 1))
-before_more cells n ss a b {i} t c s =
-    gains_then _ t s (λ z (j, h, k). (j, omega arith, k)) (λ z k. (i, omega arith, k))
-    (λ z (j, h, k). elim (cases_eq j i) [ inl same ↦ inr (rw same at k) | inr ne ↦ inl (j, omega arith, k) ])
 
 -- the set begun from nothing has what stands before its members
 pub accepts_down : (cells : List ℕ) (n : ℕ) (ss : List ℕ) (k : ℕ) (a b : List ℕ) → Preorder cells n → ((i : ℕ) → get_or a i 0 ≡ 0) → Gains a b (BeforeOne cells n ss k) → Down cells n b
@@ -70,21 +62,21 @@ accepts_down cells n ss k a b p blank t u z e m = elim (t.sound z m) [
   | inr (i, h, o) ↦ t.done u (i, h, p.transitive u z (get_or ss i 0) e o)
 ]
 
-pub record Risen (cells : List ℕ) (n low : ℕ) (labels nexts : List ℕ) (a b : List ℕ) : Type 0 where
+pub record Risen (edges : Edges) (a b : List ℕ) : Type 0 where
   pub grows : (z : ℕ) → Member a z → Member b z
-  pub down : (u z : ℕ) → Holds cells n u z → Member b z → Member b u
-  pub sound : (g : Graph) → Drawn g n low labels nexts → (z : ℕ) → Member b z → Behind g (Holds cells n) (Member a) z
+  pub down : (u z : ℕ) → Joins edges u z → Member b z → Member b u
+  pub sound : (g : Graph) → Drawn g edges.nodes → (z : ℕ) → Member b z → Behind g (Joins edges) (Member a) z
 
 behind_from : (g : Graph) {E : ℕ → ℕ → Type 0} {S Q : ℕ → Type 0} → ((z : ℕ) → S z → Behind g E Q z) → {z : ℕ} → Behind g E S z → Behind g E Q z
 behind_from g f (end s) = f _ s
 behind_from g f (along e b) = along e (behind_from g f b)
 behind_from g f (lower i b) = lower i (behind_from g f b)
 
-module _ (cells : List ℕ) (n low : ℕ) (labels nexts : List ℕ) (a : List ℕ) where
-  pub risen_none : Down cells n a → Risen cells n low labels nexts a a
+module _ (edges : Edges) (a : List ℕ) where
+  pub risen_none : Down edges.cells.now edges.nodes.size a → Risen edges a a
   risen_none d = record { grows = λ z m. m; down = d; sound = λ g w z m. end m }
 
-  pub risen_more : (b c : List ℕ) (t : Bool) (k : ℕ) → Risen cells n low labels nexts a b → Rises cells n low labels nexts b c t k → Risen cells n low labels nexts a c
+  pub risen_more : (b c : List ℕ) (t : Bool) (k : ℕ) → Risen edges a b → Rises edges b c t k → Risen edges a c
   risen_more b c t k h d = record { grows = λ z m. d.grows z (h.grows z m); down = d.down; sound = λ g w z m. behind_from g (h.sound g w) (d.sound g w z m) }
 
 pub mem_at : (ss : List ℕ) (i : ℕ) → i < length ss → Memᴰ (get_or ss i 0) ss
@@ -96,26 +88,26 @@ pub place_of : {x : ℕ} {ss : List ℕ} → Memᴰ x ss → (i : ℕ) × (i < l
 place_of (Memᴰ.head e) = (0, omega arith, sym e)
 place_of (Memᴰ.tail k) = let (i, h, e) = place_of k in (suc i, omega arith, e)
 
-module _ (cells : List ℕ) (n low : ℕ) (labels nexts : List ℕ) (order : Preorder cells n) (ss blank a b : List ℕ)
-    (inside : (i : ℕ) → i < length ss → get_or ss i 0 < n) (zeros_all : (i : ℕ) → get_or blank i 0 ≡ 0)
-    (first : Gains blank a (BeforeOne cells n ss (length ss))) (h : Risen cells n low labels nexts a b)
-    (closed : (x : ℕ) → low ≤ x → x < n → Member b (get_or nexts x 0) → Member b x) where
-  begun : (g : Graph) (z : ℕ) → Member a z → Behind g (Holds cells n) (λ x. Memᴰ x ss) z
+module _ (edges : Edges) (ss blank a b : List ℕ)
+    (inside : (i : ℕ) → i < length ss → get_or ss i 0 < edges.nodes.size) (zeros_all : (i : ℕ) → get_or blank i 0 ≡ 0)
+    (first : Gains blank a (BeforeOne edges.cells.now edges.nodes.size ss (length ss))) (h : Risen edges a b)
+    (closed : (x : ℕ) → edges.nodes.low ≤ x → x < edges.nodes.size → Member b (get_or edges.nodes.nexts.now x 0) → Member b x) where
+  begun : (g : Graph) (z : ℕ) → Member a z → Behind g (Joins edges) (λ x. Memᴰ x ss) z
   begun g z m = elim (first.sound z m) [
     | inl o ↦ absurd (let q = zeros_all z in omega arith)
     | inr (i, k, o) ↦ along o (end (mem_at ss i k))
   ]
 
-  into : (g : Graph) → Drawn g n low labels nexts → {z : ℕ} → Behind g (Holds cells n) (λ x. Memᴰ x ss) z → Member b z
+  into : (g : Graph) → Drawn g edges.nodes → {z : ℕ} → Behind g (Joins edges) (λ x. Memᴰ x ss) z → Member b z
   into g w {z} (end s) =
       let (i, k, e) = place_of s in
-      h.grows z (first.done z (i, k, rw e (order.reflexive z (rw e at (inside i k)))))
+      h.grows z (first.done z (i, k, rw e (edges.order.reflexive z (rw e at (inside i k)))))
   into g w (along {x} {y} e p) = h.down x y e (into g w p)
   into g w (lower {x} i p) =
       let (lo, hi) = w.inner_from x i in
       closed x lo hi (rw (w.next x lo hi) (into g w p))
 
-  pub is_behind : IsBehind cells n low labels nexts ss b
+  pub is_behind : IsBehind edges ss b
   is_behind = record { sound = λ g w z m. behind_from g (begun g) (h.sound g w z m); done = λ g w z p. into g w p }
 
 -- The nodes behind are those from which trails lead.

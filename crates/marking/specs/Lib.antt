@@ -1,8 +1,10 @@
 pub mod Marks
 pub mod Relations
+pub mod Shapes
 pub mod Nodes
 pub mod Rounds
 pub mod Reach
 pub mod Drawing
 pub mod Ways
+pub mod Steps
 pub mod Solving

@@ -1,31 +1,34 @@
--- The nodes of a machine's graph as they lie in words, and the levels of a word.
+-- The nodes of a machine's graph and the edges between them, as they lie in words, and the levels of a word.
 use Rattle.std.specs.Prelude.{◌≡◌, ℕ, suc, ◌<◌, ◌≤◌, T, List, length, slice_index, slice_index_or}
 use Rattle.theory.specs.Graph.{Graph}
 use Rattle.theory.specs.Levels.{Reads}
+use Rattle.marking.specs.declared.nodes.Nodes.{Nodes}
+use Rattle.marking.specs.declared.edges.Edges.{Edges}
 use Rattle.marking.specs.Relations.{On, Holds}
 
--- Words for n nodes, of which those from low on are inner.
-pub record Shaped (n low : ℕ) (labels nexts : List ℕ) : Type 0 where
-  pub labels_long : length labels ≡ n
-  pub nexts_long : length nexts ≡ n
-  pub low_in : low ≤ n
-  pub next_in : (x : ℕ) → low ≤ x → x < n → slice_index nexts x < n
+-- The nodes are those of the graph g.
+pub record Drawn (g : Graph) (nodes : Nodes) : Type 0 where
+  pub inner_from : (x : ℕ) → T (g.inner x) → (nodes.low ≤ x) × (x < nodes.size)
+  pub inner_of : (x : ℕ) → nodes.low ≤ x → x < nodes.size → T (g.inner x)
+  pub label : (x : ℕ) → nodes.low ≤ x → x < nodes.size → slice_index nodes.labels.now x ≡ g.label x
+  pub next : (x : ℕ) → nodes.low ≤ x → x < nodes.size → slice_index nodes.nexts.now x ≡ g.next x
 
--- They are those of the graph g.
-pub record Drawn (g : Graph) (n low : ℕ) (labels nexts : List ℕ) : Type 0 where
-  pub inner_from : (x : ℕ) → T (g.inner x) → (low ≤ x) × (x < n)
-  pub inner_of : (x : ℕ) → low ≤ x → x < n → T (g.inner x)
-  pub label : (x : ℕ) → low ≤ x → x < n → slice_index labels x ≡ g.label x
-  pub next : (x : ℕ) → low ≤ x → x < n → slice_index nexts x ≡ g.next x
+-- An edge leads from x to y.
+abbrev pub Joins : Edges → ℕ → ℕ → Type 0
+Joins edges x y = Holds edges.cells.now edges.nodes.size x y
+
+-- The node x has the label, and its next node stands in line j.
+pub record GoesOn (nodes : Nodes) (label : ℕ) (levels : List ℕ) (j x : ℕ) : Type 0 where
+  pub labelled : slice_index_or nodes.labels.now x 0 ≡ label
+  pub onward : On levels nodes.size 11 (slice_index nodes.nexts.now x) j
 
 -- u stands before an inner node, below high, that has the label and whose next node stands in line j.
-pub record Leads (cells : List ℕ) (n low : ℕ) (labels nexts : List ℕ) (label : ℕ) (levels : List ℕ) (j high u : ℕ) : Type 0 where
+pub record Leads (edges : Edges) (label : ℕ) (levels : List ℕ) (j high u : ℕ) : Type 0 where
   pub node : ℕ
-  pub above : low ≤ node
+  pub above : edges.nodes.low ≤ node
   pub below : node < high
-  pub labelled : slice_index_or labels node 0 ≡ label
-  pub onward : On levels n 11 (slice_index nexts node) j
-  pub before : Holds cells n u node
+  pub on : GoesOn edges.nodes label levels j node
+  pub before : Joins edges u node
 
 -- From x a lean trail over E reads the first j symbols of the word and comes to q.
 pub data Level (g : Graph) (E : ℕ → ℕ → Type 0) (word : List ℕ) (q : ℕ) : ℕ → ℕ → Type 0 where

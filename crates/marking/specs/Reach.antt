@@ -3,7 +3,8 @@ use Rattle.std.specs.Prelude.{◌≡◌, ℕ, ◌<◌, ◌≤◌, Bool, true, fa
 use mathlib.Core.List.{Memᴰ}
 use Rattle.theory.specs.Graph.{Graph}
 use Rattle.marking.specs.Relations.{Member, Holds, zeros}
-use Rattle.marking.specs.Nodes.{Drawn}
+use Rattle.marking.specs.declared.edges.Edges.{Edges}
+use Rattle.marking.specs.Nodes.{Drawn, Joins}
 
 pub data Ahead (g : Graph) (E : ℕ → ℕ → Type 0) (S : ℕ → Type 0) : ℕ → Type 0 where
   begin : {x : ℕ} → S x → Ahead g E S x
@@ -16,36 +17,36 @@ pub data Behind (g : Graph) (E : ℕ → ℕ → Type 0) (S : ℕ → Type 0) : 
   lower : {x : ℕ} → T (g.inner x) → Behind g E S (g.next x) → Behind g E S x
 
 -- The set b is made from a by the inner nodes before k: a node whose next node is in the set comes in, with all that stand before it.
-pub record Rises (cells : List ℕ) (n low : ℕ) (labels nexts : List ℕ) (a b : List ℕ) (changed : Bool) (k : ℕ) : Type 0 where
+pub record Rises (edges : Edges) (a b : List ℕ) (changed : Bool) (k : ℕ) : Type 0 where
   pub grows : (z : ℕ) → Member a z → Member b z
-  pub down : (u z : ℕ) → Holds cells n u z → Member b z → Member b u
-  pub sound : (g : Graph) → Drawn g n low labels nexts → (z : ℕ) → Member b z → Behind g (Holds cells n) (Member a) z
+  pub down : (u z : ℕ) → Joins edges u z → Member b z → Member b u
+  pub sound : (g : Graph) → Drawn g edges.nodes → (z : ℕ) → Member b z → Behind g (Joins edges) (Member a) z
   pub same : changed ≡ false → b ≡ a
   pub fewer : changed ≡ true → zeros b < zeros a
-  pub closed : changed ≡ false → (x : ℕ) → low ≤ x → x < k → Member b (slice_index nexts x) → Member b x
+  pub closed : changed ≡ false → (x : ℕ) → edges.nodes.low ≤ x → x < k → Member b (slice_index edges.nodes.nexts.now x) → Member b x
 
 -- The set has exactly the nodes from which a trail leads into S.
-pub record IsBehind (cells : List ℕ) (n low : ℕ) (labels nexts : List ℕ) (S : List ℕ) (set : List ℕ) : Type 0 where
-  pub sound : (g : Graph) → Drawn g n low labels nexts → (z : ℕ) → Member set z → Behind g (Holds cells n) (λ x. Memᴰ x S) z
-  pub done : (g : Graph) → Drawn g n low labels nexts → (z : ℕ) → Behind g (Holds cells n) (λ x. Memᴰ x S) z → Member set z
+pub record IsBehind (edges : Edges) (S : List ℕ) (set : List ℕ) : Type 0 where
+  pub sound : (g : Graph) → Drawn g edges.nodes → (z : ℕ) → Member set z → Behind g (Joins edges) (λ x. Memᴰ x S) z
+  pub done : (g : Graph) → Drawn g edges.nodes → (z : ℕ) → Behind g (Joins edges) (λ x. Memᴰ x S) z → Member set z
 
 -- z stands before one of the first k states of the list.
 abbrev pub BeforeOne : List ℕ → ℕ → List ℕ → ℕ → ℕ → Type 0
 BeforeOne cells n ss k z = (i : ℕ) × (i < k) × Holds cells n z (slice_index ss i)
 
 -- The set b is made from a by the inner nodes before k: where a node is in the set its next node comes in, with all that it stands before.
-pub record Sinks (cells : List ℕ) (n low : ℕ) (labels nexts : List ℕ) (a b : List ℕ) (changed : Bool) (k : ℕ) : Type 0 where
+pub record Sinks (edges : Edges) (a b : List ℕ) (changed : Bool) (k : ℕ) : Type 0 where
   pub grows : (z : ℕ) → Member a z → Member b z
-  pub up : (z u : ℕ) → Holds cells n z u → Member b z → Member b u
-  pub sound : (g : Graph) → Drawn g n low labels nexts → (z : ℕ) → Member b z → Ahead g (Holds cells n) (Member a) z
+  pub up : (z u : ℕ) → Joins edges z u → Member b z → Member b u
+  pub sound : (g : Graph) → Drawn g edges.nodes → (z : ℕ) → Member b z → Ahead g (Joins edges) (Member a) z
   pub same : changed ≡ false → b ≡ a
   pub fewer : changed ≡ true → zeros b < zeros a
-  pub closed : changed ≡ false → (x : ℕ) → low ≤ x → x < k → Member b x → Member b (slice_index nexts x)
+  pub closed : changed ≡ false → (x : ℕ) → edges.nodes.low ≤ x → x < k → Member b x → Member b (slice_index edges.nodes.nexts.now x)
 
 -- The set has exactly the nodes to which a trail leads from S.
-pub record IsAhead (cells : List ℕ) (n low : ℕ) (labels nexts : List ℕ) (S : List ℕ) (set : List ℕ) : Type 0 where
-  pub sound : (g : Graph) → Drawn g n low labels nexts → (z : ℕ) → Member set z → Ahead g (Holds cells n) (λ x. Memᴰ x S) z
-  pub done : (g : Graph) → Drawn g n low labels nexts → (z : ℕ) → Ahead g (Holds cells n) (λ x. Memᴰ x S) z → Member set z
+pub record IsAhead (edges : Edges) (S : List ℕ) (set : List ℕ) : Type 0 where
+  pub sound : (g : Graph) → Drawn g edges.nodes → (z : ℕ) → Member set z → Ahead g (Joins edges) (λ x. Memᴰ x S) z
+  pub done : (g : Graph) → Drawn g edges.nodes → (z : ℕ) → Ahead g (Joins edges) (λ x. Memᴰ x S) z → Member set z
 
 -- One of the first k states of the list stands before z.
 abbrev pub AfterOne : List ℕ → ℕ → List ℕ → ℕ → ℕ → Type 0

@@ -26,6 +26,13 @@ pub record Gains (ws ws' : List ℕ) (P : ℕ → Type 0) : Type 0 where
   pub sound : (z : ℕ) → Member ws' z → Member ws z ⊎ P z
   pub done : (z : ℕ) → P z → Member ws' z
 
+-- The set has each node of P; or some node of P is not in it.
+abbrev pub HasEach : List ℕ → (ℕ → Type 0) → Type 0
+HasEach ws P = (z : ℕ) → P z → Member ws z
+
+abbrev pub Misses : List ℕ → (ℕ → Type 0) → Type 0
+Misses ws P = (z : ℕ) × P z × (Member ws z → ⊥)
+
 -- The members of ws are those of P.
 pub record Marks (ws : List ℕ) (P : ℕ → Type 0) : Type 0 where
   pub sound : (z : ℕ) → Member ws z → P z

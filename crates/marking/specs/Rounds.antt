@@ -5,7 +5,9 @@ use Rattle.machine.specs.Lists.{Lists}
 use Rattle.machine.specs.Runs.{Reach}
 use Rattle.theory.specs.Graph.{Graph, Lawful, Good}
 use Rattle.marking.specs.Relations.{Member, Holds, Preorder, zeros}
-use Rattle.marking.specs.Nodes.{Drawn, Level}
+use Rattle.marking.specs.declared.nodes.Nodes.{Nodes}
+use Rattle.marking.specs.declared.edges.Edges.{Edges}
+use Rattle.marking.specs.Nodes.{Drawn, Level, Joins}
 use Rattle.marking.specs.Ways.{OnWay}
 use Rattle.marking.specs.Marks.{row_at}
 
@@ -14,16 +16,10 @@ abbrev pub Own : (m : Lists) (g : Graph) → Lawful m g → ℕ → ℕ → Type
 Own m g l x y = Reach m (l.st x) (l.tail x) (l.st y) (l.tail y)
 
 -- The words draw a lawful graph of the machine, and firsts has the first node of each row.
-pub record Draws (m : Lists) (n low : ℕ) (labels nexts firsts : List ℕ) (g : Graph) : Type 0 where
-  pub drawn : Drawn g n low labels nexts
+pub record Draws (m : Lists) (nodes : Nodes) (firsts : List ℕ) (g : Graph) : Type 0 where
+  pub drawn : Drawn g nodes
   pub lawful : Lawful m g
   pub first : (i : ℕ) → i < length m.rows → slice_index firsts i ≡ g.first i
-
--- The rows begin at nodes, and firsts has a node for each.
-pub record Fit (m : Lists) (n : ℕ) (firsts : List ℕ) : Type 0 where
-  pub long : length m.rows ≤ length firsts
-  pub from : (i : ℕ) → i < length m.rows → (row_at m i).from < n
-  pub first : (i : ℕ) → i < length m.rows → slice_index firsts i < n
 
 -- Each row before k that can be applied has been.
 abbrev pub Obeyed : (m : Lists) (n : ℕ) (firsts : List ℕ) → Graph → List ℕ → ℕ → Type 0
@@ -31,51 +27,51 @@ Obeyed m n firsts g cells k =
     (i z : ℕ) → i < k → Level g (Holds cells n) (pops (row_at m i)) (row_at m i).from (length (pops (row_at m i))) z → Holds cells n z (slice_index firsts i)
 
 -- b is made from a by the rows before k.
-pub record Round (m : Lists) (n low : ℕ) (labels nexts firsts : List ℕ) (a b : List ℕ) (changed : Bool) (k : ℕ) : Type 0 where
-  pub order : Preorder b n
-  pub grows : (u v : ℕ) → Holds a n u v → Holds b n u v
+pub record Round (m : Lists) (nodes : Nodes) (firsts : List ℕ) (a b : List ℕ) (changed : Bool) (k : ℕ) : Type 0 where
+  pub order : Preorder b nodes.size
+  pub grows : (u v : ℕ) → Holds a nodes.size u v → Holds b nodes.size u v
   pub same : changed ≡ false → b ≡ a
   pub fewer : changed ≡ true → zeros b < zeros a
-  pub sound : (g : Graph) (d : Draws m n low labels nexts firsts g) → ((u v : ℕ) → Holds a n u v → Own m g d.lawful u v) → (u v : ℕ) → Holds b n u v → Own m g d.lawful u v
-  pub obeyed : changed ≡ false → (g : Graph) → Drawn g n low labels nexts → Obeyed m n firsts g b k
+  pub sound : (g : Graph) (d : Draws m nodes firsts g) → ((u v : ℕ) → Holds a nodes.size u v → Own m g d.lawful u v) → (u v : ℕ) → Holds b nodes.size u v → Own m g d.lawful u v
+  pub obeyed : changed ≡ false → (g : Graph) → Drawn g nodes → Obeyed m nodes.size firsts g b k
 
 -- b is made from a by rounds until nothing changes.
-pub record Saturated (m : Lists) (n low : ℕ) (labels nexts firsts : List ℕ) (a b : List ℕ) : Type 0 where
-  pub order : Preorder b n
-  pub grows : (u v : ℕ) → Holds a n u v → Holds b n u v
-  pub sound : (g : Graph) (d : Draws m n low labels nexts firsts g) → ((u v : ℕ) → Holds a n u v → Own m g d.lawful u v) → (u v : ℕ) → Holds b n u v → Own m g d.lawful u v
-  pub obeyed : (g : Graph) → Drawn g n low labels nexts → Obeyed m n firsts g b (length m.rows)
+pub record Saturated (m : Lists) (nodes : Nodes) (firsts : List ℕ) (a b : List ℕ) : Type 0 where
+  pub order : Preorder b nodes.size
+  pub grows : (u v : ℕ) → Holds a nodes.size u v → Holds b nodes.size u v
+  pub sound : (g : Graph) (d : Draws m nodes firsts g) → ((u v : ℕ) → Holds a nodes.size u v → Own m g d.lawful u v) → (u v : ℕ) → Holds b nodes.size u v → Own m g d.lawful u v
+  pub obeyed : (g : Graph) → Drawn g nodes → Obeyed m nodes.size firsts g b (length m.rows)
 
 -- The edges of ways by the row at a place are good already.
-abbrev pub RowWalked : (m : Lists) (n : ℕ) (firsts : List ℕ) → Graph → List ℕ → List ℕ → ℕ → Type 0
-RowWalked m n firsts g cells good i =
-    (u v : ℕ) → OnWay g (Holds cells n) (Holds good n) (pops (row_at m i)) (row_at m i).from (slice_index firsts i) u v → Holds good n u v
+abbrev pub RowWalked : (m : Lists) (edges : Edges) (firsts : List ℕ) → Graph → List ℕ → ℕ → Type 0
+RowWalked m edges firsts g good i =
+    (u v : ℕ) → OnWay g (Joins edges) (Holds good edges.nodes.size) (pops (row_at m i)) (row_at m i).from (slice_index firsts i) u v → Holds good edges.nodes.size u v
 
 -- So they are of each row whose first node is not in the set.
-abbrev pub Pending : (m : Lists) (n : ℕ) (firsts : List ℕ) → Graph → List ℕ → List ℕ → List ℕ → Type 0
-Pending m n firsts g cells good set = (i : ℕ) → i < length m.rows → Member set (slice_index firsts i) ⊎ RowWalked m n firsts g cells good i
+abbrev pub Pending : (m : Lists) (edges : Edges) (firsts : List ℕ) → Graph → List ℕ → List ℕ → Type 0
+Pending m edges firsts g good set = (i : ℕ) → i < length m.rows → Member set (slice_index firsts i) ⊎ RowWalked m edges firsts g good i
 
 -- Over sound edges, each pair of a is a good edge; then each of b is.
-abbrev pub KeepsGood : (m : Lists) (n low : ℕ) (labels nexts firsts cells a b : List ℕ) → Type 0
-KeepsGood m n low labels nexts firsts cells a b =
-    (g : Graph) (d : Draws m n low labels nexts firsts g) → ((u v : ℕ) → Holds cells n u v → Own m g d.lawful u v)
-    → ((u v : ℕ) → Holds a n u v → Good m g d.lawful (Holds cells n) u v) → (u v : ℕ) → Holds b n u v → Good m g d.lawful (Holds cells n) u v
+abbrev pub KeepsGood : (m : Lists) (edges : Edges) (firsts a b : List ℕ) → Type 0
+KeepsGood m edges firsts a b =
+    (g : Graph) (d : Draws m edges.nodes firsts g) → ((u v : ℕ) → Joins edges u v → Own m g d.lawful u v)
+    → ((u v : ℕ) → Holds a edges.nodes.size u v → Good m g d.lawful (Joins edges) u v) → (u v : ℕ) → Holds b edges.nodes.size u v → Good m g d.lawful (Joins edges) u v
 
 -- The good edges b are made from a by the rows before k. Of these, and of the rows from k on that are not pending, each is walked unless its first node is touched.
-pub record BackRound (m : Lists) (n low : ℕ) (labels nexts firsts cells pending a b old touched : List ℕ) (changed : Bool) (k : ℕ) : Type 0 where
-  pub grows : (u v : ℕ) → Holds a n u v → Holds b n u v
+pub record BackRound (m : Lists) (edges : Edges) (firsts pending a b old touched : List ℕ) (changed : Bool) (k : ℕ) : Type 0 where
+  pub grows : (u v : ℕ) → Holds a edges.nodes.size u v → Holds b edges.nodes.size u v
   pub same : changed ≡ false → b ≡ a
   pub fewer : changed ≡ true → zeros b < zeros a
   pub quiet : changed ≡ false → touched ≡ old
-  pub sound : KeepsGood m n low labels nexts firsts cells a b
-  pub done : (g : Graph) → Drawn g n low labels nexts → (i : ℕ) → i < k → Member touched (slice_index firsts i) ⊎ RowWalked m n firsts g cells b i
-  pub left : (g : Graph) → Drawn g n low labels nexts → (i : ℕ) → k ≤ i → i < length m.rows → Member pending (slice_index firsts i) ⊎ (Member touched (slice_index firsts i) ⊎ RowWalked m n firsts g cells b i)
+  pub sound : KeepsGood m edges firsts a b
+  pub done : (g : Graph) → Drawn g edges.nodes → (i : ℕ) → i < k → Member touched (slice_index firsts i) ⊎ RowWalked m edges firsts g b i
+  pub left : (g : Graph) → Drawn g edges.nodes → (i : ℕ) → k ≤ i → i < length m.rows → Member pending (slice_index firsts i) ⊎ (Member touched (slice_index firsts i) ⊎ RowWalked m edges firsts g b i)
 
 -- The good edges b are made from a by rounds until nothing changes.
-pub record BackSaturated (m : Lists) (n low : ℕ) (labels nexts firsts cells a b : List ℕ) : Type 0 where
-  pub grows : (u v : ℕ) → Holds a n u v → Holds b n u v
-  pub sound : KeepsGood m n low labels nexts firsts cells a b
-  pub walked : (g : Graph) → Drawn g n low labels nexts → (i : ℕ) → i < length m.rows → RowWalked m n firsts g cells b i
+pub record BackSaturated (m : Lists) (edges : Edges) (firsts a b : List ℕ) : Type 0 where
+  pub grows : (u v : ℕ) → Holds a edges.nodes.size u v → Holds b edges.nodes.size u v
+  pub sound : KeepsGood m edges firsts a b
+  pub walked : (g : Graph) → Drawn g edges.nodes → (i : ℕ) → i < length m.rows → RowWalked m edges firsts g b i
 
 -- The edges from a node of one set to a node of another.
 pub record Between (cells : List ℕ) (n : ℕ) (ahead behind : List ℕ) (u v : ℕ) : Type 0 where

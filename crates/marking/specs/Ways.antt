@@ -1,10 +1,11 @@
 -- The ways of a word: lean trails that read it and whose first node stands in a relation C to a node top.
 -- They are walked from their beginning, while levels are filled from their end.
-use Rattle.std.specs.Prelude.{◌≡◌, ℕ, suc, ◌+◌, ◌<◌, ◌≤◌, ◌⊎◌, List, length, slice_index, slice_index_or}
+use Rattle.std.specs.Prelude.{◌≡◌, ℕ, suc, ◌+◌, ◌<◌, ◌≤◌, ◌⊎◌, List, length, slice_index}
 use Rattle.theory.specs.Graph.{Graph}
 use Rattle.theory.specs.Levels.{Reads}
-use Rattle.marking.specs.Relations.{On, Holds}
-use Rattle.marking.specs.Nodes.{Level}
+use Rattle.marking.specs.declared.edges.Edges.{Edges}
+use Rattle.marking.specs.Relations.{On}
+use Rattle.marking.specs.Nodes.{Level, Joins, GoesOn}
 
 -- A way comes to x where the first j symbols of the word are still to read.
 pub data Passed (g : Graph) (E C : ℕ → ℕ → Type 0) (word : List ℕ) (q top : ℕ) : ℕ → ℕ → Type 0 where
@@ -36,22 +37,20 @@ pub record Walked (g : Graph) (E C : ℕ → ℕ → Type 0) (word : List ℕ) (
   pub below : (j z : ℕ) → j < k → On ways n 11 z j → ⊥
 
 -- u is the next node of an inner node, below high, that has the label and to which an edge leads from a node of line j + 1 of the ways; and u is in line j of the levels.
-pub record Comes (cells : List ℕ) (n low : ℕ) (labels nexts : List ℕ) (label : ℕ) (levels ways : List ℕ) (j high u : ℕ) : Type 0 where
+pub record Comes (edges : Edges) (label : ℕ) (levels ways : List ℕ) (j high u : ℕ) : Type 0 where
   pub node : ℕ
-  pub above : low ≤ node
+  pub above : edges.nodes.low ≤ node
   pub below : node < high
-  pub labelled : slice_index_or labels node 0 ≡ label
-  pub next : u ≡ slice_index nexts node
-  pub level : On levels n 11 u j
+  pub on : GoesOn edges.nodes label levels j node
+  pub next : u ≡ slice_index edges.nodes.nexts.now node
   pub source : ℕ
-  pub way : On ways n 11 source (j + 1)
-  pub before : Holds cells n source node
+  pub way : On ways edges.nodes.size 11 source (j + 1)
+  pub before : Joins edges source node
 
 -- An edge leads from u, of line j + 1 of the ways, to the inner node v, below high, that has the label and whose next node is in line j of the levels.
-pub record Leaves (cells : List ℕ) (n low : ℕ) (labels nexts : List ℕ) (label : ℕ) (levels ways : List ℕ) (j high u v : ℕ) : Type 0 where
-  pub above : low ≤ v
+pub record Leaves (edges : Edges) (label : ℕ) (levels ways : List ℕ) (j high u v : ℕ) : Type 0 where
+  pub above : edges.nodes.low ≤ v
   pub below : v < high
-  pub labelled : slice_index_or labels v 0 ≡ label
-  pub level : On levels n 11 (slice_index nexts v) j
-  pub way : On ways n 11 u (j + 1)
-  pub before : Holds cells n u v
+  pub on : GoesOn edges.nodes label levels j v
+  pub way : On ways edges.nodes.size 11 u (j + 1)
+  pub before : Joins edges u v

@@ -1,164 +1,119 @@
 //! The edges of a machine's graph, backward: those over which a run can still come to an accepting state.
 //! Rounds over the rows until nothing changes.
-ghost use Rattle.std.specs.Prelude.{◌≡◌, ℕ, ◌+◌, ◌*◌, ◌<◌, ◌≤◌, true, length};
-ghost use Rattle.machine.specs.Rows.{symbols_of, pops, lawful_row};
+ghost use Rattle.std.specs.Prelude.{◌≡◌, ℕ, ◌*◌, ◌<◌, length, slice_index};
 ghost use Rattle.theory.specs.Graph.{Graph};
-ghost use Rattle.marking.specs.Relations.{Member, Holds, Steps, Touches};
-ghost use Rattle.marking.specs.Nodes.{Shaped, Drawn, Filled};
-ghost use Rattle.marking.specs.Rounds.{Fit, Pending, BackRound, BackSaturated, Based};
-ghost use Rattle.marking.specs.Ways.{Walked, Leaves, OnWay};
+ghost use Rattle.marking.specs.Relations.{Steps, Touches};
+ghost use Rattle.marking.specs.Nodes.{Drawn};
+ghost use Rattle.marking.specs.Steps.{HasLevels, HasWays, OnStep};
+ghost use Rattle.marking.specs.Rounds.{Pending, BackRound, BackSaturated, Based};
+ghost use Rattle.marking.specs.Ways.{Leaves};
 
-use crate::levels::{fill_levels, is_on};
-use crate::matrix::{absorb_both, take_in_both};
-use crate::nodes::Nodes;
-use crate::sets::{clear, fill, line};
-use crate::ways::fill_ways;
+use crate::graph::Joined;
+use crate::matrix::absorb_both;
+use crate::sets::{clear, fill, line, take_in};
+use crate::source::Both;
+use crate::step::Step;
+use crate::walk::Walk;
+use crate::work::Work;
 use machine::machine::Machine;
-use machine::row::{Row, Word};
 
-// The edges of ways to inner nodes with this label, which read the symbol at place j. Whether any is new.
-fn put_edges(
-    cells: &[u16],
-    nodes: Nodes<'_>,
-    label: u16,
-    levels: &[u16],
-    ways: &[u16],
-    good: &mut [u16],
-    touched: &mut [u16],
-    j: usize,
-) -> bool
-    requires shape { (Shaped nodes.size nodes.low nodes.labels.now nodes.nexts.now) × ((length cells.now ≡ nodes.size * nodes.size) × ((length good.old ≡ nodes.size * nodes.size) × ((length levels.now ≡ 11 * nodes.size) × (length ways.now ≡ 11 * nodes.size)))) }
-    requires place { (j < 10) × (length touched.old ≡ nodes.size) }
-    ensures steps { Steps good.old good.new nodes.entry.size (Leaves cells.now nodes.entry.size nodes.entry.low nodes.entry.labels.now nodes.entry.nexts.now label levels.now ways.now j nodes.entry.size) result }
-    ensures touches { Touches good.old good.new nodes.entry.size touched.old touched.new result }
-{
-    let mut changed = false;
-    for x in nodes.low..nodes.size {
-        let next = nodes.nexts[x] as usize;
-        if nodes.labels[x] == label && is_on(levels, nodes.size, next, j) {
-            let sources = line(cells, nodes.size, x);
-            let passed = line(ways, nodes.size, j + 1);
-            changed |= absorb_both(good, nodes.size, x, sources, passed, touched);
+impl Walk<'_> {
+    // The edges of the ways to inner nodes that read the symbol at place j. Whether any is new.
+    fn put_edges(self, j: usize, good: &mut [u16], touched: &mut [u16]) -> bool
+        requires place { j < self.step.popped.len }
+        requires shape { (length good.old ≡ self.step.edges.nodes.size * self.step.edges.nodes.size) × (length touched.old ≡ self.step.edges.nodes.size) }
+        ensures steps { Steps good.old good.new self.entry.step.edges.nodes.size (Leaves self.entry.step.edges (slice_index self.entry.step.popped.symbols j) self.entry.levels.now self.entry.ways.now j self.entry.step.edges.nodes.size) result }
+        ensures touches { Touches good.old good.new self.entry.step.edges.nodes.size touched.old touched.new result }
+    {
+        let edges = self.step.edges;
+        let n = edges.nodes.size;
+        let label = u16::from(self.step.popped.symbols[j]);
+        let mut changed = false;
+        for x in edges.nodes.low..n {
+            if edges.nodes.goes_on(x, label, self.levels, j) {
+                let sources = line(edges.cells, n, x);
+                let passed = line(self.ways, n, j + 1);
+                changed |= absorb_both(good, n, x, sources, passed, touched);
+            }
         }
+        changed
     }
-    changed
+
+    // All edges of the ways. Whether any is new.
+    fn put_ways(self, good: &mut [u16], touched: &mut [u16]) -> bool
+        requires { (length good.old ≡ self.step.edges.nodes.size * self.step.edges.nodes.size) × (length touched.old ≡ self.step.edges.nodes.size) }
+        ensures steps { (g : Graph) → Drawn g self.entry.step.edges.nodes → HasLevels g self.entry.step self.entry.levels.now → HasWays g self.entry.step good.old self.entry.ways.now → Steps good.old good.new self.entry.step.edges.nodes.size (OnStep g self.entry.step good.old) result }
+        ensures touches { Touches good.old good.new self.entry.step.edges.nodes.size touched.old touched.new result }
+    {
+        let n = self.step.edges.nodes.size;
+        let mut changed = false;
+        for j in 0..usize::from(self.step.popped.len) {
+            changed |= self.put_edges(j, good, touched);
+        }
+        let sources = line(self.step.edges.cells, n, self.step.from);
+        let passed = line(self.ways, n, 0);
+        changed |= absorb_both(good, n, self.step.from, sources, passed, touched);
+        changed
+    }
 }
 
-// All edges of the ways of a word. Whether any is new.
-fn put_ways(
-    cells: &[u16],
-    nodes: Nodes<'_>,
-    word: Word,
-    from: usize,
-    levels: &[u16],
-    ways: &[u16],
-    good: &mut [u16],
-    touched: &mut [u16],
-) -> bool
-    requires shape { (Shaped nodes.size nodes.low nodes.labels.now nodes.nexts.now) × ((length cells.now ≡ nodes.size * nodes.size) × ((length good.old ≡ nodes.size * nodes.size) × ((length levels.now ≡ 11 * nodes.size) × (length ways.now ≡ 11 * nodes.size)))) }
-    requires row { (from < nodes.size) × ((word.len ≤ 10) × ((length (symbols_of word) ≡ word.len) × (length touched.old ≡ nodes.size))) }
-    ensures steps { (g : Graph) → Drawn g nodes.entry.size nodes.entry.low nodes.entry.labels.now nodes.entry.nexts.now → Filled g (Holds cells.now nodes.entry.size) (symbols_of word) from nodes.entry.size levels.now word.len → (top : ℕ) → Walked g (Holds cells.now nodes.entry.size) (Holds good.old nodes.entry.size) (symbols_of word) from top nodes.entry.size ways.now 0 → Steps good.old good.new nodes.entry.size (OnWay g (Holds cells.now nodes.entry.size) (Holds good.old nodes.entry.size) (symbols_of word) from top) result }
-    ensures touches { Touches good.old good.new nodes.entry.size touched.old touched.new result }
-{
-    let mut changed = false;
-    for j in 0..usize::from(word.len) {
-        changed |= put_edges(
-            cells,
-            nodes,
-            u16::from(word.symbols[j]),
+impl Step<'_> {
+    // Where the row can still lead to acceptance, so can each edge over which its popped word is read. Whether any is new.
+    fn go_back(
+        self,
+        levels: &mut [u16],
+        ways: &mut [u16],
+        good: &mut [u16],
+        touched: &mut [u16],
+    ) -> bool
+        requires lines { (length levels.old ≡ 11 * self.edges.nodes.size) × (length ways.old ≡ 11 * self.edges.nodes.size) }
+        requires shape { (length good.old ≡ self.edges.nodes.size * self.edges.nodes.size) × (length touched.old ≡ self.edges.nodes.size) }
+        ensures steps { (g : Graph) → Drawn g self.entry.edges.nodes → Steps good.old good.new self.entry.edges.nodes.size (OnStep g self.entry good.old) result }
+        ensures touches { Touches good.old good.new self.entry.edges.nodes.size touched.old touched.new result }
+    {
+        self.fill_levels(levels);
+        self.fill_ways(good, levels, ways);
+        let walk = Walk {
+            step: self,
             levels,
             ways,
-            good,
-            touched,
-            j,
-        );
+        };
+        walk.put_ways(good, touched)
     }
-    let sources = line(cells, nodes.size, from);
-    let passed = line(ways, nodes.size, 0);
-    changed |= absorb_both(good, nodes.size, from, sources, passed, touched);
-    changed
 }
 
-// Where the row can still lead to acceptance, so can each edge over which its popped word is read. Whether any is new.
-fn back_row(
-    cells: &[u16],
-    nodes: Nodes<'_>,
-    first: usize,
-    row: Row,
-    levels: &mut [u16],
-    ways: &mut [u16],
-    good: &mut [u16],
-    touched: &mut [u16],
-) -> bool
-    requires shape { (Shaped nodes.size nodes.low nodes.labels.now nodes.nexts.now) × ((length cells.now ≡ nodes.size * nodes.size) × ((length good.old ≡ nodes.size * nodes.size) × ((length levels.old ≡ 11 * nodes.size) × (length ways.old ≡ 11 * nodes.size)))) }
-    requires row { (first < nodes.size) × ((row.from < nodes.size) × ((lawful_row row ≡ true) × (length touched.old ≡ nodes.size))) }
-    ensures steps { (g : Graph) → Drawn g nodes.entry.size nodes.entry.low nodes.entry.labels.now nodes.entry.nexts.now → Steps good.old good.new nodes.entry.size (OnWay g (Holds cells.now nodes.entry.size) (Holds good.old nodes.entry.size) (pops row) row.from first) result }
-    ensures touches { Touches good.old good.new nodes.entry.size touched.old touched.new result }
-{
-    fill_levels(cells, nodes, row.popped, usize::from(row.from), levels);
-    fill_ways(cells, nodes, row.popped, levels, good, first, ways);
-    put_ways(
-        cells,
-        nodes,
-        row.popped,
-        usize::from(row.from),
-        levels,
-        ways,
-        good,
-        touched,
-    )
-}
-
-// Every row once, but for those whose first line has not been touched since they were walked last. Whether any edge is new.
-fn back_round<M: Machine>(
-    m: &M,
-    cells: &[u16],
-    nodes: Nodes<'_>,
-    firsts: &[u16],
-    levels: &mut [u16],
-    ways: &mut [u16],
-    good: &mut [u16],
-    pending: &[u16],
-    touched: &mut [u16],
-) -> bool
-    requires shape { (Shaped nodes.size nodes.low nodes.labels.now nodes.nexts.now) × ((length cells.now ≡ nodes.size * nodes.size) × ((length good.old ≡ nodes.size * nodes.size) × ((length levels.old ≡ 11 * nodes.size) × (length ways.old ≡ 11 * nodes.size)))) }
-    requires rows { (Fit (M.Machine.lists m.now) nodes.size firsts.now) × ((length pending.now ≡ nodes.size) × (length touched.old ≡ nodes.size)) }
-    requires pending { (g : Graph) → Drawn g nodes.size nodes.low nodes.labels.now nodes.nexts.now → Pending (M.Machine.lists m.now) nodes.size firsts.now g cells.now good.old pending.now }
-    ensures { BackRound (M.Machine.lists m.now) nodes.entry.size nodes.entry.low nodes.entry.labels.now nodes.entry.nexts.now firsts.now cells.now pending.now good.old good.new touched.old touched.new result (length (M.Machine.lists m.now).rows) }
-{
-    let mut changed = false;
-    for i in 0..m.row_count() {
-        let first = usize::from(firsts[i]);
-        if pending[first].max(touched[first]) != 0 {
-            changed |= back_row(cells, nodes, first, m.row(i), levels, ways, good, touched);
+impl<M: Machine> Joined<'_, M> {
+    // Every row once, but for those whose first line has not been touched since they were walked last. Whether any edge is new.
+    fn back_round(&self, good: &mut [u16], work: &mut Work<'_>) -> bool
+        requires good { length good.old ≡ self.now.edges.nodes.size * self.now.edges.nodes.size }
+        requires size { work.old.size ≡ self.now.edges.nodes.size }
+        requires pending { (g : Graph) → Drawn g self.now.edges.nodes → Pending (M.Machine.lists self.now.machine.now) self.now.edges self.now.firsts.now g good.old work.old.pending.now }
+        ensures size { work.new.size ≡ work.old.size }
+        ensures round { BackRound (M.Machine.lists self.now.machine.now) self.now.edges self.now.firsts.now work.old.pending.now good.old good.new work.old.touched.now work.new.touched.now result (length (M.Machine.lists self.now.machine.now).rows) }
+    {
+        let mut changed = false;
+        for i in 0..self.machine.row_count() {
+            let step = self.step(i);
+            if work.pending[step.first].max(work.touched[step.first]) != 0 {
+                changed |= step.go_back(work.levels, work.ways, good, work.touched);
+            }
         }
+        changed
     }
-    changed
-}
 
-// Rounds until nothing changes: each but the last adds an edge.
-pub(crate) fn saturate_back<M: Machine>(
-    m: &M,
-    cells: &[u16],
-    nodes: Nodes<'_>,
-    firsts: &[u16],
-    levels: &mut [u16],
-    ways: &mut [u16],
-    good: &mut [u16],
-    pending: &mut [u16],
-    touched: &mut [u16],
-)
-    requires shape { (Shaped nodes.size nodes.low nodes.labels.now nodes.nexts.now) × ((length cells.now ≡ nodes.size * nodes.size) × ((length good.old ≡ nodes.size * nodes.size) × ((length levels.old ≡ 11 * nodes.size) × (length ways.old ≡ 11 * nodes.size)))) }
-    requires rows { (Fit (M.Machine.lists m.now) nodes.size firsts.now) × ((length pending.old ≡ nodes.size) × (length touched.old ≡ nodes.size)) }
-    ensures { BackSaturated (M.Machine.lists m.now) nodes.entry.size nodes.entry.low nodes.entry.labels.now nodes.entry.nexts.now firsts.now cells.now good.old good.new }
-{
-    fill(pending);
-    clear(touched);
-    while back_round(
-        m, cells, nodes, firsts, levels, ways, good, pending, touched,
-    ) {
-        pending.copy_from_slice(touched);
-        clear(touched);
+    // Rounds until nothing changes: each but the last adds an edge.
+    pub(crate) fn saturate_back(&self, good: &mut [u16], work: &mut Work<'_>)
+        requires good { length good.old ≡ self.now.edges.nodes.size * self.now.edges.nodes.size }
+        requires size { work.old.size ≡ self.now.edges.nodes.size }
+        ensures size { work.new.size ≡ work.old.size }
+        ensures saturated { BackSaturated (M.Machine.lists self.now.machine.now) self.now.edges self.now.firsts.now good.old good.new }
+    {
+        fill(work.pending);
+        clear(work.touched);
+        while self.back_round(good, work) {
+            work.pending.copy_from_slice(work.touched);
+            clear(work.touched);
+        }
     }
 }
 
@@ -168,9 +123,9 @@ pub(crate) fn begin_good(cells: &[u16], n: usize, ahead: &[u16], behind: &[u16],
     ensures { Based cells.now good.new n ahead.now behind.now }
 {
     clear(good);
-    for y in 0..n {
-        if behind[y] != 0 {
-            take_in_both(good, n, y, line(cells, n, y), ahead);
+    for (y, word) in behind.iter().enumerate() {
+        if *word != 0 {
+            take_in(good, n, y, Both(line(cells, n, y), ahead));
         }
     }
 }

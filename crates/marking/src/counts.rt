@@ -2,6 +2,8 @@
 ghost use Rattle.std.specs.Prelude.{◌≡◌};
 ghost use Rattle.marking.specs.Marks.{counts_of};
 
+use crate::mark::Mark;
+
 // The marks above 0, and the marks 2.
 #[derive(Clone, Copy, PartialEq, Eq, Debug)]
 pub struct Counts {
@@ -12,13 +14,14 @@ pub struct Counts {
 pub(crate) fn count_marks(marks: &[u8]) -> Counts
     ensures { result ≡ counts_of marks.now }
 {
-    let mut counts = Counts {
-        reachable: 0,
-        useful: 0,
-    };
-    for mark in marks {
-        counts.reachable += usize::from(*mark > 0);
-        counts.useful += usize::from(*mark == 2);
+    Counts {
+        reachable: marks
+            .iter()
+            .filter(|mark| **mark > Mark::Unreachable as u8)
+            .count(),
+        useful: marks
+            .iter()
+            .filter(|mark| **mark == Mark::Useful as u8)
+            .count(),
     }
-    counts
 }

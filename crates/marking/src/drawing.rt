@@ -1,5 +1,5 @@
 //! Writing down the nodes of a machine's graph: the states are there already, and each row adds a node for each symbol that it pushes.
-ghost use Rattle.std.specs.Prelude.{◌≡◌, ◌+◌, ◌<◌, ◌≤◌, length};
+ghost use Rattle.std.specs.Prelude.{◌+◌, ◌<◌, ◌≤◌, length};
 ghost use Rattle.machine.specs.Rows.{symbols_of};
 ghost use Rattle.marking.specs.Drawing.{DrewWord, DrewRows, Roomy};
 
@@ -12,10 +12,12 @@ fn draw_word(word: Word, base: usize, prev: usize, labels: &mut [u16], nexts: &m
     ensures { DrewWord (symbols_of word) base prev labels.old nexts.old labels.new nexts.new word.len result }
 {
     let mut last = prev;
-    for k in 0..usize::from(word.len) {
-        labels[base + k] = u16::from(word.symbols[k]);
-        nexts[base + k] = last as u16;
-        last = base + k;
+    let symbols = &word.symbols[..usize::from(word.len)];
+    for (k, symbol) in symbols.iter().enumerate() {
+        let node = base + k;
+        labels[node] = u16::from(*symbol);
+        nexts[node] = last as u16;
+        last = node;
     }
     last
 }

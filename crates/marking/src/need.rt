@@ -9,11 +9,9 @@ use machine::machine::Machine;
 fn pushed_count<M: Machine>(m: &M) -> usize
     ensures { (result ≡ pushed (M.Machine.lists m.now).rows) × (result ≤ 10240) }
 {
-    let mut sum = 0;
-    for i in 0..m.row_count() {
-        sum += usize::from(m.row(i).pushed.len);
-    }
-    sum
+    (0..m.row_count())
+        .map(|i| usize::from(m.row(i).pushed.len))
+        .sum()
 }
 
 // The nodes of the machine's graph: its states, and the symbols that its rows push.

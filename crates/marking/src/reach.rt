@@ -1,25 +1,25 @@
 //! The nodes on trails from the starts, and the nodes from which a trail leads to an accepting state.
 ghost use Rattle.std.specs.Prelude.{◌≡◌, ℕ, ◌+◌, ◌*◌, ◌<◌, ◌≤◌, true, false, length, slice_index};
-ghost use Rattle.marking.specs.Relations.{Member, Holds, Gains, Preorder, Down, Up};
-ghost use Rattle.marking.specs.Nodes.{Shaped};
+ghost use Rattle.marking.specs.Relations.{Gains, Down, Up};
 ghost use Rattle.marking.specs.Reach.{Rises, BeforeOne, IsBehind, Sinks, AfterOne, IsAhead};
 
+use crate::edges::Edges;
+use crate::graph::Joined;
 use crate::matrix::{add_sources, add_targets};
-use crate::nodes::Nodes;
 use crate::sets::clear;
 use machine::machine::Machine;
 
 // Each inner node whose next node is in the set comes in, with all that stand before it. Whether any did.
-fn rise(cells: &[u16], nodes: Nodes<'_>, set: &mut [u16]) -> bool
-    requires shape { (Shaped nodes.size nodes.low nodes.labels.now nodes.nexts.now) × ((length cells.now ≡ nodes.size * nodes.size) × (length set.old ≡ nodes.size)) }
-    requires order { (Preorder cells.now nodes.size) × (Down cells.now nodes.size set.old) }
-    ensures { Rises cells.now nodes.entry.size nodes.entry.low nodes.entry.labels.now nodes.entry.nexts.now set.old set.new result nodes.entry.size }
+fn rise(edges: Edges<'_>, set: &mut [u16]) -> bool
+    requires long { length set.old ≡ edges.nodes.size }
+    requires down { Down edges.cells.now edges.nodes.size set.old }
+    ensures { Rises edges.entry set.old set.new result edges.entry.nodes.size }
 {
     let mut changed = false;
-    for x in nodes.low..nodes.size {
-        let next = nodes.nexts[x] as usize;
+    for x in edges.nodes.low..edges.nodes.size {
+        let next = edges.nodes.next(x);
         if set[next] != 0 && set[x] == 0 {
-            add_sources(cells, nodes.size, x, set);
+            add_sources(edges.cells, edges.nodes.size, x, set);
             changed = true;
         }
     }
@@ -36,29 +36,17 @@ fn add_accepts<M: Machine>(m: &M, cells: &[u16], n: usize, set: &mut [u16])
     }
 }
 
-// The nodes from which a trail leads to an accepting state.
-pub(crate) fn find_behind<M: Machine>(m: &M, cells: &[u16], nodes: Nodes<'_>, set: &mut [u16])
-    requires shape { (Shaped nodes.size nodes.low nodes.labels.now nodes.nexts.now) × ((length cells.now ≡ nodes.size * nodes.size) × (length set.old ≡ nodes.size)) }
-    requires order { Preorder cells.now nodes.size }
-    requires accepts { (i : ℕ) → i < length (M.Machine.lists m.now).accepts → slice_index (M.Machine.lists m.now).accepts i < nodes.size }
-    ensures { IsBehind cells.now nodes.entry.size nodes.entry.low nodes.entry.labels.now nodes.entry.nexts.now (M.Machine.lists m.now).accepts set.new }
-{
-    clear(set);
-    add_accepts(m, cells, nodes.size, set);
-    while rise(cells, nodes, set) {}
-}
-
 // Where an inner node is in the set its next node comes in, with all that it stands before. Whether any did.
-fn sink(cells: &[u16], nodes: Nodes<'_>, set: &mut [u16]) -> bool
-    requires shape { (Shaped nodes.size nodes.low nodes.labels.now nodes.nexts.now) × ((length cells.now ≡ nodes.size * nodes.size) × (length set.old ≡ nodes.size)) }
-    requires order { (Preorder cells.now nodes.size) × (Up cells.now nodes.size set.old) }
-    ensures { Sinks cells.now nodes.entry.size nodes.entry.low nodes.entry.labels.now nodes.entry.nexts.now set.old set.new result nodes.entry.size }
+fn sink(edges: Edges<'_>, set: &mut [u16]) -> bool
+    requires long { length set.old ≡ edges.nodes.size }
+    requires up { Up edges.cells.now edges.nodes.size set.old }
+    ensures { Sinks edges.entry set.old set.new result edges.entry.nodes.size }
 {
     let mut changed = false;
-    for x in nodes.low..nodes.size {
-        let next = nodes.nexts[x] as usize;
+    for x in edges.nodes.low..edges.nodes.size {
+        let next = edges.nodes.next(x);
         if set[x] != 0 && set[next] == 0 {
-            add_targets(cells, nodes.size, next, set);
+            add_targets(edges.cells, edges.nodes.size, next, set);
             changed = true;
         }
     }
@@ -75,14 +63,24 @@ fn add_starts<M: Machine>(m: &M, cells: &[u16], n: usize, set: &mut [u16])
     }
 }
 
-// The nodes to which a trail leads from a start.
-pub(crate) fn find_ahead<M: Machine>(m: &M, cells: &[u16], nodes: Nodes<'_>, set: &mut [u16])
-    requires shape { (Shaped nodes.size nodes.low nodes.labels.now nodes.nexts.now) × ((length cells.now ≡ nodes.size * nodes.size) × (length set.old ≡ nodes.size)) }
-    requires order { Preorder cells.now nodes.size }
-    requires starts { (i : ℕ) → i < length (M.Machine.lists m.now).starts → slice_index (M.Machine.lists m.now).starts i < nodes.size }
-    ensures { IsAhead cells.now nodes.entry.size nodes.entry.low nodes.entry.labels.now nodes.entry.nexts.now (M.Machine.lists m.now).starts set.new }
-{
-    clear(set);
-    add_starts(m, cells, nodes.size, set);
-    while sink(cells, nodes, set) {}
+impl<M: Machine> Joined<'_, M> {
+    // The nodes from which a trail leads to an accepting state.
+    pub(crate) fn find_behind(&self, set: &mut [u16])
+        requires { length set.old ≡ self.now.edges.nodes.size }
+        ensures { IsBehind self.now.edges (M.Machine.lists self.now.machine.now).accepts set.new }
+    {
+        clear(set);
+        add_accepts(self.machine, self.edges.cells, self.edges.nodes.size, set);
+        while rise(self.edges, set) {}
+    }
+
+    // The nodes to which a trail leads from a start.
+    pub(crate) fn find_ahead(&self, set: &mut [u16])
+        requires { length set.old ≡ self.now.edges.nodes.size }
+        ensures { IsAhead self.now.edges (M.Machine.lists self.now.machine.now).starts set.new }
+    {
+        clear(set);
+        add_starts(self.machine, self.edges.cells, self.edges.nodes.size, set);
+        while sink(self.edges, set) {}
+    }
 }

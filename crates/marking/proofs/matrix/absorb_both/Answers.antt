@@ -1,24 +1,15 @@
-use Rattle.std.proofs.Common.{refl, arith}
-use Rattle.std.proofs.lemmas.Bool.{false≢true, true≢false}
-use Rattle.marking.proofs.Lines.{both_there, fewer_both, touches_none, touches_line}
+use Rattle.std.proofs.Common.{◌≡◌, arith}
+use Rattle.std.proofs.lemmas.Bool.{true≢false}
+use Rattle.marking.specs.Relations.{Member}
+use Rattle.marking.proofs.Cells.{adds_as}
+use Rattle.marking.proofs.Lines.{fewer_both}
 use Rattle.marking.proofs.matrix.absorb_both.Goals as goal
 
-pub returns-then-has_both : goal.returns-then-has_both
-returns-then-has_both c = record {
-  steps = record {
-    adds = both_there _ _ _ _ _ c.if-has_both.ensures;
-    same = λ _. refl;
-    fewer = λ e. absurd (false≢true e);
-  };
-  touches = touches_none _ _ _;
-}
-
-pub returns : goal.returns
-returns c = record {
-  steps = record {
-    adds = c.take_in_both.ensures;
-    same = λ e. absurd (true≢false e);
-    fewer = λ _. fewer_both c.args.cells.now c.take_in_both.new.cells c.args.n c.args.set.now c.args.other.now c.args.y c.take_in_both.ensures (omega arith) (omega arith) (omega arith) (omega arith) c.if-has_both.ensures;
-  };
-  touches = touches_line _ _ _ _ _ _ (omega arith) c.take_in_both.ensures;
-}
+pub returns-clause-steps : goal.returns-clause-steps
+returns-clause-steps c =
+    let t = adds_as (λ u v. (v ≡ c.args.y) × (Member c.args.set.now u × Member c.args.other.now u)) (c.take_in.ensures c.args.n (omega arith) (omega arith)) (λ u v r. (r.0, r.1.1)) (λ u v hu hv r. (r.0, (omega arith, r.1))) in
+    record {
+      adds = t;
+      same = λ e. absurd (true≢false e);
+      fewer = λ _. fewer_both _ _ _ _ _ _ t (omega arith) (omega arith) (omega arith) (omega arith) c.if-has_both.ensures;
+    }

@@ -1,36 +1,25 @@
-use Rattle.std.proofs.Common.{◌≡◌, ◌<◌, true, length, get_or, sym, ap, ◌∙◌, arith}
-use Rattle.std.proofs.lemmas.List.{take_all}
-use Rattle.machine.specs.declared.row.Row.{Row}
-use Rattle.machine.specs.Rows.{zero_row, lawful_row, pushes}
-use Rattle.marking.specs.Marks.{pushed}
-use Rattle.marking.proofs.Rounding.{all_at}
-use Rattle.marking.proofs.Words.{both}
-use Rattle.marking.proofs.Pushing.{pushed_take, pushed_more}
-use Rattle.marking.proofs.Sizes.{pushed_small}
+use Rattle.std.proofs.Common.{ℕ, length, refl, rules, arith}
+use Rattle.std.specs.List.{range_with_len}
+use Rattle.std.proofs.lemmas.Iterator.{YieldsList-from_range, YieldsList-from_map}
+use Rattle.std.proofs.lemmas.Iterator.Consumers.{YieldsList-at, sum_by_from_yields_List, fits_by_from_yields_list}
+use Rattle.marking.specs.Marks.{row_at}
+use Rattle.marking.proofs.Pushing.{pushed_counted}
 use Rattle.marking.proofs.need.pushed_count.Goals as goal
 
-pub overflow_add-sum : goal.overflow_add-sum
-overflow_add-sum g c =
+pub sum-requires-clause-fits : goal.sum-requires-clause-fits
+sum-requires-clause-fits g c =
     let m = g.M.Machine.lists c.args.m.now in
-    let few = (g.M.Machine.few c.args.m.now).rows in
-    let small = pushed_small m.rows (g.M.Machine.limits c.args.m.now).rows in
-    let t = pushed_take c.loop-i.i m.rows in
-    record { fits = omega (arith, c.from-sum.ensures, c.loop-i.invariant) }
-
-pub loop-i-preserved : goal.loop-i-preserved
-loop-i-preserved g c =
-    let m = g.M.Machine.lists c.args.m.now in
-    let h : c.loop-i.i < length m.rows = omega (arith, c.row_count-i-end.ensures) in
-    let l : lawful_row c.row.result ≡ true = ap lawful_row c.row.ensures ∙ all_at lawful_row m.rows zero_row c.loop-i.i (g.M.Machine.limits c.args.m.now).rows h in
-    let w = (both c.row.result l).1 in
-    let n : c.from-sum.result ≡ length (pushes (get_or m.rows c.loop-i.i zero_row)) = c.from-sum.ensures ∙ sym w.long ∙ ap (λ (r : Row). length (pushes r)) c.row.ensures in
-    omega (arith, n, c.loop-i.invariant, pushed_more m.rows c.loop-i.i h)
+    let h : ℕ → ℕ = λ i. (row_at m i).pushed.len in
+    let all = pushed_counted m (g.met.M.Machine.few c.args.m.now) (g.met.M.Machine.limits c.args.m.now) in
+    fits_by_from_yields_list h (range_with_len 0 (length m.rows)) c.map.result _
+    (YieldsList-from_map _ h (YieldsList-at c.map.ensures.source (YieldsList-from_range 0 c.row_count.result (length m.rows) refl (omega (arith, c.row_count.ensures)))) c.map.ensures.closure (λ x r q k. search rules))
+    (omega (arith, all.0, all.1))
 
 pub returns : goal.returns
 returns g c =
     let m = g.M.Machine.lists c.args.m.now in
-    let few = (g.M.Machine.few c.args.m.now).rows in
-    let small = pushed_small m.rows (g.M.Machine.limits c.args.m.now).rows in
-    let e = ap pushed (take_all c.loop-i.i m.rows (omega (arith, c.row_count-i-end.ensures))) in
-    let s : c.loop-i.sum ≡ pushed m.rows = c.loop-i.invariant ∙ e in
-    (s, omega arith)
+    let h : ℕ → ℕ = λ i. (row_at m i).pushed.len in
+    let all = pushed_counted m (g.met.M.Machine.few c.args.m.now) (g.met.M.Machine.limits c.args.m.now) in
+    let s = sum_by_from_yields_List h (range_with_len 0 (length m.rows)) _ _ c.sum.ensures.ran
+    (YieldsList-from_map _ h (YieldsList-at c.map.ensures.source (YieldsList-from_range 0 c.row_count.result (length m.rows) refl (omega (arith, c.row_count.ensures)))) c.map.ensures.closure (λ x r q k. search rules)) in
+    (omega (arith, s, all.0), omega (arith, s, all.0, all.1))

@@ -4,6 +4,4 @@ use Rattle.marking.specs.Ways.{Comes}
 use Rattle.marking.proofs.ways.next_ways.Given as goal
 
 abbrev pub invariant-loop-x : goal.invariant-loop-x
-invariant-loop-x l =
-    Adds l.initial.ways l.ways l.nodes.size 11
-    (λ u v. (v ≡ l.j) × Comes l.cells l.nodes.size l.nodes.low l.nodes.labels.now l.nodes.nexts.now l.label l.levels l.initial.ways l.j l.x u)
+invariant-loop-x l = Adds l.initial.ways l.ways l.edges.nodes.size 11 (λ u v. (v ≡ l.j) × Comes l.edges l.label l.levels l.initial.ways l.j l.x u)

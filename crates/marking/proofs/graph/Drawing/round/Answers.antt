@@ -1,0 +1,17 @@
+use Rattle.std.proofs.Common.{◌≡◌, ◌<◌, length, subst, arith}
+use Rattle.marking.specs.Rounds.{Round}
+use Rattle.marking.proofs.Rounding.{round_more}
+use Rattle.marking.proofs.graph.Drawing.round.Goals as goal
+
+pub loop-i-preserved : goal.loop-i-preserved
+loop-i-preserved g c =
+    let m = g.M.Machine.lists c.args.self.now.machine.now in
+    let h : c.loop-i.i < length m.rows = omega (arith, c.row_count-i-end.ensures) in
+    let d = c.apply_row-changed.ensures in
+    round_more m _ _ _ _ _ _ _ c.loop-i.i h (c.args.self.now.fit.first c.loop-i.i h) c.loop-i.invariant d.adds d.order d.same d.fewer
+
+pub returns : goal.returns
+returns g c =
+    let m = g.M.Machine.lists c.args.self.now.machine.now in
+    let e : c.loop-i.i ≡ length m.rows = omega (arith, c.row_count-i-end.ensures) in
+    subst (λ k. Round m c.args.self.now.nodes c.args.self.now.firsts.now c.args.cells.now c.loop-i.cells c.loop-i.changed k) e c.loop-i.invariant

@@ -1,0 +1,9 @@
+use Rattle.marking.specs.Relations.{zeros}
+use Rattle.marking.proofs.Rounding.{Reached}
+use Rattle.marking.proofs.graph.Drawing.saturate.Given as goal
+
+abbrev pub invariant-loop : goal.invariant-loop
+invariant-loop g l = Reached (g.M.Machine.lists l.self.machine.now) l.self.nodes l.self.firsts.now l.initial.cells l.cells
+
+abbrev pub decreases-loop : goal.decreases-loop
+decreases-loop g l = zeros l.cells

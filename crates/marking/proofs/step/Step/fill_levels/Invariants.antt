@@ -1,0 +1,10 @@
+use Rattle.machine.specs.Rows.{symbols_of}
+use Rattle.theory.specs.Graph.{Graph}
+use Rattle.marking.specs.Nodes.{Drawn, Joins, Filled}
+use Rattle.marking.proofs.Filling.{Blank}
+use Rattle.marking.proofs.step.Step.fill_levels.Given as goal
+
+abbrev pub invariant-loop-j : goal.invariant-loop-j
+invariant-loop-j l =
+    (g : Graph) → Drawn g l.self.edges.nodes
+    → Filled g (Joins l.self.edges) (symbols_of l.self.popped) l.self.from l.self.edges.nodes.size l.levels l.j × Blank l.self.edges.nodes.size l.levels l.j l.len

@@ -1,6 +1,0 @@
-use Rattle.marking.specs.Marks.{Flags}
-use Rattle.marking.proofs.Flagging.{Early}
-use Rattle.marking.proofs.useful.flag_accepts.Given as goal
-
-abbrev pub invariant-loop-i : goal.invariant-loop-i
-invariant-loop-i g l = Flags l.flags (Early (g.M.Machine.lists l.m).accepts l.set l.i)
