@@ -3,6 +3,7 @@ ghost use Rattle.std.specs.Prelude.{◌≡◌, ◌+◌, ◌^◌, ◌<◌, ◌≤
 ghost use Rattle.listing.specs.Listings.{line_text, summary_text, summed_text};
 ghost use Rattle.listing.specs.Drafts.{Adds};
 
+use crate::marked::Marked;
 use entries::bytes::put_bytes;
 use itoa::Buffer;
 use marking::counts::Counts;
@@ -57,15 +58,14 @@ impl Draft<'_> {
         self.put(b"\n");
     }
 
-    // The lines of all rows, and the last line. A machine has at most 1,024 rows.
-    pub(crate) fn put_listing(&mut self, marks: &[u8], counts: Counts)
-        requires few { length marks.now ≤ 1024 }
-        requires short { self.old.len < 2 ^ 31 }
-        ensures { Adds (summed_text marks.now counts) self.old self.new }
+    // The lines of all rows, and the last line.
+    pub(crate) fn put_listing(&mut self, marked: Marked<'_>)
+        requires { self.old.len < 2 ^ 31 }
+        ensures { Adds (summed_text marked.entry.marks.now marked.entry.counts) self.old self.new }
     {
-        for (place, mark) in marks.iter().enumerate() {
+        for (place, mark) in marked.marks.iter().enumerate() {
             self.put_line(place, *mark);
         }
-        self.put_summary(counts, marks.len());
+        self.put_summary(marked.counts, marked.marks.len());
     }
 }

@@ -2,7 +2,7 @@
 #![tactic(auto)]
 
 mod draft;
+mod marked;
 pub mod opened;
 pub mod output;
 pub mod texts;
-mod written;

@@ -1,23 +1,20 @@
 //! Listing the marks of a machine in lent memory.
-ghost use Rattle.std.specs.Prelude.{◌≤◌, length};
 ghost use Rattle.listing.specs.Listings.{summed_text};
 ghost use Rattle.listing.specs.Outcomes.{Written, ListOutcome};
 
-use crate::written::{listing_len, put_listing};
+use crate::marked::Marked;
 use machine::fault::{Fault, Rule};
 use machine::machine::Machine;
-use marking::counts::Counts;
 use marking::marks::mark_rows;
 
 // Writes the listing where it fits, and answers its length.
-fn write_listing(out: &mut [u8], marks: &[u8], counts: Counts) -> Result<usize, Fault>
-    requires { length marks.now ≤ 1024 }
-    ensures { Written (summed_text marks.now counts) out.old out.new result }
+fn write_listing(out: &mut [u8], marked: Marked<'_>) -> Result<usize, Fault>
+    ensures { Written (summed_text marked.entry.marks.now marked.entry.counts) out.old out.new result }
 {
-    if out.len() < listing_len(marks, counts) {
+    if out.len() < marked.listing_len() {
         return Err(Rule::Output.at(0, 0));
     }
-    Ok(put_listing(out, marks, counts))
+    Ok(marked.put(out))
 }
 
 // Marks the rows, and writes their listing; answers its length. Where it does not fit, the marks are set all the same.
@@ -30,7 +27,8 @@ pub fn list_marks<M: Machine>(
     ensures { ListOutcome (M.Machine.lists m.now) scratch.old scratch.new marks.old marks.new out.old out.new result }
 {
     let counts = mark_rows(m, scratch, marks)?;
-    write_listing(out, &marks[0..m.row_count()], counts)
+    let marks = &marks[0..m.row_count()];
+    write_listing(out, Marked { marks, counts })
 }
 
 #[cfg(test)]

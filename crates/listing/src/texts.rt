@@ -4,22 +4,20 @@ ghost use Rattle.reports.specs.Texts.{fault_text};
 ghost use Rattle.listing.specs.Listings.{summed_text};
 ghost use Rattle.listing.specs.Texts.{IsListing, MarksText};
 
-use crate::written::{listing_len, put_listing};
+use crate::marked::Marked;
 use machine::fault::Fault;
 use machine::machine::Machine;
-use marking::counts::Counts;
 use marking::marks::mark_rows;
 use marking::need::scratch_need;
 use reports::faults::fault_text;
 use std::alloc::{AllocError, Global};
 
 // The listing of the marks, in an output of its own.
-fn listed(heap: Global, marks: &[u8], counts: Counts) -> Result<Vec<u8>, AllocError>
-    requires { length marks.now ≤ 1024 }
-    ensures { IfOk result (λ v. v.items ≡ summed_text marks.now counts) }
+fn listed(heap: Global, marked: Marked<'_>) -> Result<Vec<u8>, AllocError>
+    ensures { IfOk result (λ v. v.items ≡ summed_text marked.entry.marks.now marked.entry.counts) }
 {
-    let mut out = vec![in heap; 0; listing_len(marks, counts)]?;
-    put_listing(out.as_mut_slice(), marks, counts);
+    let mut out = vec![in heap; 0; marked.listing_len()]?;
+    marked.put(out.as_mut_slice());
     Ok(out)
 }
 
@@ -38,7 +36,10 @@ pub fn marks_text<M: Machine>(heap: Global, m: &M, words: usize) -> Result<Vec<u
     let mut scratch = vec![in heap; 0; words]?;
     let mut marks = vec![in heap; 0; m.row_count()]?;
     match mark_rows(m, scratch.as_mut_slice(), marks.as_mut_slice()) {
-        Ok(counts) => listed(heap, marks.as_slice(), counts),
+        Ok(counts) => {
+            let marks = marks.as_slice();
+            listed(heap, Marked { marks, counts })
+        }
         Err(fault) => refused(heap, fault),
     }
 }

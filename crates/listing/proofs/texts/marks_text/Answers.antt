@@ -10,7 +10,7 @@ returns-in-Ok g c =
     let outcome = c.in-Ok.ensures.outcome in
     let words = c.in_ok-scratch.ensures.len in
     let rows = c.in_ok-marks.ensures.len in
-    let same = c.as_slice.ensures.value ∙ with_items_is c.in_ok-marks.marks c.mark_rows.new.marks (omega arith) in
+    let same = c.as_slice-marks.ensures.value ∙ with_items_is c.in_ok-marks.marks c.mark_rows.new.marks (omega arith) in
     IfOk-weaker c.listed.result _ _
     (λ v e. set_text (g.M.Machine.lists c.args.m.now) c.as_mut_slice.result.now outcome.0.0 (omega arith) (omega arith) outcome.1 outcome.2 same e)
     c.listed.ensures
