@@ -4,7 +4,7 @@ use mathlib.Core.List.{Memᴰ}
 use Rattle.std.proofs.lemmas.Bool.{cases_eq, cases_Bool, false≢true, true≢false}
 use Rattle.theory.specs.Graph.{Graph, Trail, here, edge, down}
 use Rattle.theory.proofs.Trails.{join}
-use Rattle.marking.specs.Relations.{Member, Holds, Gains, Preorder, Down, zeros}
+use Rattle.marking.specs.Relations.{Member, Gains, Preorder, Down, zeros}
 use Rattle.marking.specs.declared.edges.Edges.{Edges}
 use Rattle.marking.specs.Nodes.{Drawn, Joins}
 use Rattle.marking.specs.Reach.{Behind, end, along, lower, Rises, BeforeOne, IsBehind}

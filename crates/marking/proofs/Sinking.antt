@@ -3,7 +3,7 @@ use Rattle.std.proofs.Common.{◌≡◌, ℕ, ◌+◌, ◌<◌, ◌≤◌, Bool,
 use mathlib.Core.List.{Memᴰ}
 use Rattle.std.proofs.lemmas.Bool.{cases_eq, cases_Bool, false≢true, true≢false}
 use Rattle.theory.specs.Graph.{Graph, Trail, here, edge, down}
-use Rattle.marking.specs.Relations.{Member, Holds, Gains, Preorder, Up, zeros}
+use Rattle.marking.specs.Relations.{Member, Gains, Preorder, Up, zeros}
 use Rattle.marking.specs.declared.edges.Edges.{Edges}
 use Rattle.marking.specs.Nodes.{Drawn, Joins}
 use Rattle.marking.specs.Reach.{Ahead, begin, along, lower, Sinks, AfterOne, IsAhead}

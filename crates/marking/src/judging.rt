@@ -1,13 +1,14 @@
 //! The mark of each row, from the solved graph of its machine.
-ghost use Rattle.std.specs.Prelude.{◌≡◌, ℕ, ◌+◌, ◌*◌, ◌<◌, ◌≤◌, true, length, drop, if◌then◌else◌};
+ghost use Rattle.std.specs.Prelude.{◌≡◌, ◌*◌, ◌≤◌, length, drop, if◌then◌else◌};
 ghost use Rattle.theory.specs.Graph.{Graph};
 ghost use Rattle.marking.specs.Nodes.{Drawn};
 ghost use Rattle.marking.specs.Solving.{FoundAll};
 ghost use Rattle.marking.specs.Steps.{HasMark};
 
+use crate::good::GoodEdges;
 use crate::graph::Joined;
 use crate::mark::Mark;
-use crate::sets::{line, share};
+use crate::sets::share;
 use crate::step::Step;
 use crate::work::Work;
 use machine::machine::Machine;
@@ -21,15 +22,14 @@ fn mark(useful: bool, reachable: bool) -> u8
 
 impl Step<'_> {
     // 2 where a good edge leads to what the row pushes, from a node where it applies; 1 where it applies at a node ahead of the starts; else 0.
-    fn judge(self, good: &[u16], ahead: &[u16], levels: &mut [u16]) -> u8
-        requires found { (length good.now ≡ self.edges.nodes.size * self.edges.nodes.size) × (length ahead.now ≡ self.edges.nodes.size) }
+    fn judge(self, good: &GoodEdges<'_>, ahead: &[u16], levels: &mut [u16]) -> u8
+        requires found { (good.now.size ≡ self.edges.nodes.size) × (length ahead.now ≡ self.edges.nodes.size) }
         requires levels { length levels.old ≡ 11 * self.edges.nodes.size }
-        ensures { (g : Graph) → Drawn g self.entry.edges.nodes → HasMark g self.entry good.now ahead.now result }
+        ensures { (g : Graph) → Drawn g self.entry.edges.nodes → HasMark g self.entry good.now.cells.now ahead.now result }
     {
-        let n = self.edges.nodes.size;
         self.fill_levels(levels);
-        let last = line(levels, n, usize::from(self.popped.len));
-        let useful = share(last, line(good, n, self.first));
+        let last = self.last_level(levels);
+        let useful = share(last, good.sources(self.first));
         mark(useful, share(last, ahead))
     }
 }
@@ -38,15 +38,15 @@ impl<M: Machine> Joined<'_, M> {
     // The marks of all rows, in the first bytes; the others stay.
     pub(crate) fn judge_rows(
         &self,
-        good: &[u16],
+        good: &GoodEdges<'_>,
         ahead: &[u16],
         work: &mut Work<'_>,
         marks: &mut [u8],
     )
-        requires found { (length good.now ≡ self.now.edges.nodes.size * self.now.edges.nodes.size) × (length ahead.now ≡ self.now.edges.nodes.size) }
-        requires size { work.old.size ≡ self.now.edges.nodes.size }
+        requires ahead { length ahead.now ≡ self.now.edges.nodes.size }
+        requires sizes { (good.now.size ≡ self.now.edges.nodes.size) × (work.old.size ≡ self.now.edges.nodes.size) }
         requires marks { length (M.Machine.lists self.now.machine.now).rows ≤ length marks.old }
-        ensures found { (g : Graph) → Drawn g self.now.edges.nodes → FoundAll (M.Machine.lists self.now.machine.now) g self.now.edges self.now.firsts.now good.now ahead.now marks.new (length (M.Machine.lists self.now.machine.now).rows) }
+        ensures found { (g : Graph) → Drawn g self.now.edges.nodes → FoundAll (M.Machine.lists self.now.machine.now) g self.now.edges self.now.firsts.now good.now.cells.now ahead.now marks.new (length (M.Machine.lists self.now.machine.now).rows) }
         ensures rest { drop (length (M.Machine.lists self.now.machine.now).rows) marks.new ≡ drop (length (M.Machine.lists self.now.machine.now).rows) marks.old }
     {
         for i in 0..self.machine.row_count() {

@@ -7,9 +7,10 @@ ghost use Rattle.marking.specs.Marks.{scratch_need, Finds, Outcome, UsefulOutcom
 ghost use Rattle.marking.specs.Rounds.{Draws};
 
 use crate::counts::{Counts, count_marks};
-use crate::edges::Edges;
+use crate::good::GoodEdges;
 use crate::graph::{Drawing, Joined};
 use crate::need::{node_count, scratch_need};
+use crate::order::Order;
 use crate::useful::{Useful, flag_accepts, flag_starts};
 use crate::work::Work;
 use machine::fault::{Fault, Rule};
@@ -36,23 +37,25 @@ impl<M: Machine> Drawing<'_, M> {
         let (ways, rest) = rest.split_at_mut(11 * n);
         let (pending, rest) = rest.split_at_mut(n);
         let (touched, _) = rest.split_at_mut(n);
+        let mut order = Order::identity(cells, n);
+        let mut good = GoodEdges {
+            size: n,
+            cells: good,
+            touched,
+        };
         let mut work = Work {
             size: n,
             levels,
             ways,
             pending,
-            touched,
         };
-        self.solve(cells, good, ahead, behind, &mut work);
+        self.solve(&mut order, &mut good, ahead, behind, &mut work);
         let joined = Joined {
             machine: self.machine,
-            edges: Edges {
-                nodes: self.nodes,
-                cells,
-            },
+            edges: order.edges(self.nodes),
             firsts: self.firsts,
         };
-        joined.judge_rows(good, ahead, &mut work, marks);
+        joined.judge_rows(&good, ahead, &mut work, marks);
         Useful {
             counts: count_marks(&marks[0..self.machine.row_count()]),
             starts: flag_starts(self.machine, behind),

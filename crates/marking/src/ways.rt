@@ -1,61 +1,60 @@
 //! The ways of a popped word: from the nodes that can still lead to acceptance, line j has each node to which
 //! a trail comes that has read the word but for its first j symbols, and that goes on to the row's from state.
-ghost use Rattle.std.specs.Prelude.{◌≡◌, ℕ, ◌+◌, ◌*◌, ◌<◌, ◌≤◌, length};
-ghost use Rattle.machine.specs.Rows.{symbols_of};
+ghost use Rattle.std.specs.Prelude.{◌≡◌, ◌*◌, ◌<◌, length};
 ghost use Rattle.theory.specs.Graph.{Graph};
 ghost use Rattle.marking.specs.Relations.{On, Holds, Adds};
 ghost use Rattle.marking.specs.Nodes.{Drawn};
 ghost use Rattle.marking.specs.Steps.{HasLevels, HasWays};
-ghost use Rattle.marking.specs.Ways.{Comes, Walked};
+ghost use Rattle.marking.specs.Ways.{Comes};
 
 use crate::edges::Edges;
+use crate::good::GoodEdges;
 use crate::levels::put_on;
 use crate::sets::{clear_front, line, share, take_in};
 use crate::source::Both;
 use crate::step::Step;
 
-// Line k takes in each node of line k of the levels that stands before `first` in `good`.
-fn begin_ways(good: &[u16], n: usize, first: usize, levels: &[u16], ways: &mut [u16], k: usize)
-    requires { (first < n) × ((length good.now ≡ n * n) × ((k < 11) × ((length levels.now ≡ 11 * n) × (length ways.old ≡ 11 * n)))) }
-    ensures { Adds ways.old ways.new n 11 (λ u v. (v ≡ k) × (On levels.now n 11 u k × Holds good.now n u first)) }
-{
-    take_in(ways, n, k, Both(line(levels, n, k), line(good, n, first)));
+impl GoodEdges<'_> {
+    // Line k takes in each node of line k of the levels from which a good edge leads to `first`.
+    fn begin_ways(&self, first: usize, levels: &[u16], ways: &mut [u16], k: usize)
+        requires { (first < self.now.size) × ((k < 11) × ((length levels.now ≡ 11 * self.now.size) × (length ways.old ≡ 11 * self.now.size))) }
+        ensures { Adds ways.old ways.new self.now.size 11 (λ u v. (v ≡ k) × (On levels.now self.now.size 11 u k × Holds self.now.cells.now self.now.size u first)) }
+    {
+        let n = self.size;
+        take_in(ways, n, k, Both(line(levels, n, k), self.sources(first)));
+    }
 }
 
-// Line j, from line j + 1: over an inner node with this label, to its next node where that is in line j of the levels.
-fn next_ways(edges: Edges<'_>, label: u16, levels: &[u16], ways: &mut [u16], j: usize)
-    requires { (j < 10) × ((length levels.now ≡ 11 * edges.nodes.size) × (length ways.old ≡ 11 * edges.nodes.size)) }
-    ensures { Adds ways.old ways.new edges.entry.nodes.size 11 (λ u v. (v ≡ j) × Comes edges.entry label levels.now ways.old j edges.entry.nodes.size u) }
-{
-    let n = edges.nodes.size;
-    for x in edges.nodes.low..n {
-        if edges.nodes.goes_on(x, label, levels, j)
-            && share(line(edges.cells, n, x), line(ways, n, j + 1))
-        {
-            put_on(ways, n, edges.nodes.next(x), j);
+impl Edges<'_> {
+    // Line j, from line j + 1: over an inner node with this label, to its next node where that is in line j of the levels.
+    fn next_ways(self, label: u16, levels: &[u16], ways: &mut [u16], j: usize)
+        requires { (j < 10) × ((length levels.now ≡ 11 * self.nodes.size) × (length ways.old ≡ 11 * self.nodes.size)) }
+        ensures { Adds ways.old ways.new self.entry.nodes.size 11 (λ u v. (v ≡ j) × Comes self.entry label levels.now ways.old j self.entry.nodes.size u) }
+    {
+        let n = self.nodes.size;
+        for x in self.nodes.low..n {
+            if self.nodes.goes_on(x, label, levels, j)
+                && share(self.sources(x), line(ways, n, j + 1))
+            {
+                put_on(ways, n, self.nodes.next(x), j);
+            }
         }
     }
 }
 
 impl Step<'_> {
     // The ways of the popped word, whose levels are filled, from the nodes that stand before `first` in `good`.
-    pub(crate) fn fill_ways(self, good: &[u16], levels: &[u16], ways: &mut [u16])
-        requires good { length good.now ≡ self.edges.nodes.size * self.edges.nodes.size }
+    pub(crate) fn fill_ways(self, good: &GoodEdges<'_>, levels: &[u16], ways: &mut [u16])
+        requires size { good.now.size ≡ self.edges.nodes.size }
         requires lines { (length levels.now ≡ 11 * self.edges.nodes.size) × (length ways.old ≡ 11 * self.edges.nodes.size) }
-        ensures { (g : Graph) → Drawn g self.entry.edges.nodes → HasLevels g self.entry levels.now → HasWays g self.entry good.now ways.new }
+        ensures { (g : Graph) → Drawn g self.entry.edges.nodes → HasLevels g self.entry levels.now → HasWays g self.entry good.now.cells.now ways.new }
     {
-        let n = self.edges.nodes.size;
         let len = usize::from(self.popped.len);
-        clear_front(ways, (len + 1) * n);
-        begin_ways(good, n, self.first, levels, ways, len);
+        clear_front(ways, (len + 1) * self.edges.nodes.size);
+        good.begin_ways(self.first, levels, ways, len);
         for j in (0..len).rev() {
-            next_ways(
-                self.edges,
-                u16::from(self.popped.symbols[j]),
-                levels,
-                ways,
-                j,
-            );
+            let label = u16::from(self.popped.symbols[j]);
+            self.edges.next_ways(label, levels, ways, j);
         }
     }
 }

@@ -10,7 +10,7 @@ pub loop-i-preserved : goal.loop-i-preserved
 loop-i-preserved g c =
     let m = g.M.Machine.lists c.args.self.now.machine.now in
     let s = c.step.ensures in (
-      λ w d. found_more m w c.args.self.now.edges c.args.self.now.firsts.now c.args.good.now c.args.ahead.now c.loop-i.marks c.loop-i.i c.judge.result (omega arith) (c.loop-i.invariant.0 w d)
-          (as_row m _ _ c.loop-i.i c.step.result s.edges s.popped s.from s.first (λ e p q f. Drawn w e.nodes → Found w e.nodes.size e.cells.now c.args.good.now c.args.ahead.now (symbols_of p) q f c.judge.result) (c.judge.ensures w) d),
+      λ w d. found_more m w c.args.self.now.edges c.args.self.now.firsts.now c.args.good.now.cells.now c.args.ahead.now c.loop-i.marks c.loop-i.i c.judge.result (omega arith) (c.loop-i.invariant.0 w d)
+          (as_row m _ _ c.loop-i.i c.step.result s.edges s.popped s.from s.first (λ e p q f. Drawn w e.nodes → Found w e.nodes.size e.cells.now c.args.good.now.cells.now c.args.ahead.now (symbols_of p) q f c.judge.result) (c.judge.ensures w) d),
       rest_more c.args.marks.now c.loop-i.marks c.loop-i.i c.judge.result c.loop-i.invariant.1,
     )

@@ -7,5 +7,5 @@ use Rattle.marking.proofs.graph.Joined.judge_rows.Given as goal
 abbrev pub invariant-loop-i : goal.invariant-loop-i
 invariant-loop-i g l =
     ((w : Graph) → Drawn w l.self.edges.nodes
-    → FoundAll (g.M.Machine.lists l.self.machine.now) w l.self.edges l.self.firsts.now l.good l.ahead l.marks l.i)
+    → FoundAll (g.M.Machine.lists l.self.machine.now) w l.self.edges l.self.firsts.now l.good.cells.now l.ahead l.marks l.i)
     × (drop l.i l.marks ≡ drop l.i l.initial.marks)

@@ -5,9 +5,9 @@ use Rattle.marking.proofs.graph.Joined.saturate_back.Given as goal
 
 abbrev pub invariant-loop-work : goal.invariant-loop-work
 invariant-loop-work g l = record {
-  size : l.work.size ≡ l.initial.work.size;
-  backed : Backed (g.M.Machine.lists l.self.machine.now) l.self.edges l.self.firsts.now l.initial.good l.good l.work.pending.now l.work.touched.now;
+  sizes : (l.good.size ≡ l.initial.good.size) × (l.work.size ≡ l.initial.work.size);
+  backed : Backed (g.M.Machine.lists l.self.machine.now) l.self.edges l.self.firsts.now l.initial.good.cells.now l.good.cells.now l.work.pending.now l.good.touched.now;
 }
 
 abbrev pub decreases-loop-work : goal.decreases-loop-work
-decreases-loop-work g l = zeros l.good
+decreases-loop-work g l = zeros l.good.cells.now

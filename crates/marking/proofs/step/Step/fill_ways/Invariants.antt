@@ -9,4 +9,4 @@ abbrev pub invariant-loop-j : goal.invariant-loop-j
 invariant-loop-j l =
     (g : Graph) → Drawn g l.self.edges.nodes
     → Filled g (Joins l.self.edges) (symbols_of l.self.popped) l.self.from l.self.edges.nodes.size l.levels l.self.popped.len
-    → Walked g (Joins l.self.edges) (Holds l.good l.self.edges.nodes.size) (symbols_of l.self.popped) l.self.from l.self.first l.self.edges.nodes.size l.ways l.j
+    → Walked g (Joins l.self.edges) (Holds l.good.cells.now l.self.edges.nodes.size) (symbols_of l.self.popped) l.self.from l.self.first l.self.edges.nodes.size l.ways l.j

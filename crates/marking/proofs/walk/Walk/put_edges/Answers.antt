@@ -1,4 +1,4 @@
-use Rattle.std.proofs.Common.{◌≡◌, refl, subst, arith}
+use Rattle.std.proofs.Common.{◌≡◌, refl, sym, ◌∙◌, subst, arith}
 use Rattle.std.proofs.lemmas.Bool.{false≢true}
 use Rattle.marking.specs.Relations.{Steps}
 use Rattle.marking.specs.Ways.{Leaves}
@@ -10,28 +10,33 @@ use Rattle.marking.proofs.walk.Walk.put_edges.Goals.{then-goes_on, else-goes_on}
 pub loop-x-preserved : goal.loop-x-preserved
 loop-x-preserved c =
     let few = c.args.self.step.few in
+    let l = c.loop-x.invariant in
     elim c.if-goes_on.branch [
       | then-goes_on w ↦
-          simp (w.good-is, w.touched-is, w.changed-is) (record {
-            steps = leaves_more _ _ _ _ _ _ _ _ _ c.loop-x.invariant.steps w.absorb_both-changed.new.cells _ _ _
-                (w.line-sources.ensures.1 c.args.self.step.edges.nodes.size (omega arith) c.args.self.step.edges.square) (w.line-passed.ensures.1 11 (omega arith) c.args.self.ways_long)
-                w.absorb_both-changed.ensures.steps (omega arith) (w.if-goes_on.ensures.0 refl);
-            touches = touches_then c.loop-x.invariant.touches w.absorb_both-changed.ensures.touches;
+          let d = w.absorb_both-changed.ensures in
+          simp (w.good-is, w.changed-is) (record {
+            size = d.size ∙ l.size;
+            steps = leaves_more _ _ _ _ _ _ _ _ _ l.steps _ _ _ _ w.sources.ensures w.passed.ensures (rw l.size at d.steps) (omega arith) (w.if-goes_on.ensures.0 refl);
+            touches = touches_then l.touches (rw l.size at d.touches);
           })
       | else-goes_on w ↦
-          simp (w.good-is, w.touched-is, w.changed-is) (record {
-            steps = leaves_skip _ _ _ _ _ _ _ _ _ c.loop-x.invariant.steps (λ o. false≢true (w.if-goes_on.ensures.1 o));
-            touches = c.loop-x.invariant.touches;
+          simp (w.good-is, w.changed-is) (record {
+            size = l.size;
+            steps = leaves_skip _ _ _ _ _ _ _ _ _ l.steps (λ o. false≢true (w.if-goes_on.ensures.1 o));
+            touches = l.touches;
           })
     ]
 
 pub returns : goal.returns
 returns c =
     let l = c.args.self.step.edges.nodes.shaped.low_in in
-    let e : c.loop-x.x ≡ c.args.self.step.edges.nodes.size = omega arith in
+    let s = c.args.self.step in
+    let i = c.loop-x.invariant in
+    let e : c.loop-x.x ≡ s.edges.nodes.size = omega arith in
     record {
+      size = i.size ∙ sym c.requires.size;
       steps =
-          subst (λ a. Steps c.args.good.now c.loop-x.good c.args.self.step.edges.nodes.size (Leaves c.args.self.step.edges a c.args.self.levels.now c.args.self.ways.now c.args.j c.args.self.step.edges.nodes.size) c.loop-x.changed) c.from-label.ensures
-          (subst (λ h. Steps c.args.good.now c.loop-x.good c.args.self.step.edges.nodes.size (Leaves c.args.self.step.edges c.from-label.result c.args.self.levels.now c.args.self.ways.now c.args.j h) c.loop-x.changed) e c.loop-x.invariant.steps);
-      touches = c.loop-x.invariant.touches;
+          subst (λ a. Steps c.args.good.now.cells.now c.loop-x.good.cells.now s.edges.nodes.size (Leaves s.edges a c.args.self.levels.now c.args.self.ways.now c.args.j s.edges.nodes.size) c.loop-x.changed) c.from-label.ensures
+          (subst (λ h. Steps c.args.good.now.cells.now c.loop-x.good.cells.now s.edges.nodes.size (Leaves s.edges c.from-label.result c.args.self.levels.now c.args.self.ways.now c.args.j h) c.loop-x.changed) e i.steps);
+      touches = i.touches;
     }

@@ -1,0 +1,6 @@
+use Rattle.marking.specs.Relations.{Gains}
+use Rattle.marking.specs.Reach.{AfterOne}
+use Rattle.marking.proofs.graph.Joined.add_starts.Given as goal
+
+abbrev pub invariant-loop-i : goal.invariant-loop-i
+invariant-loop-i g l = Gains l.initial.set l.set (AfterOne l.self.edges.cells.now l.self.edges.nodes.size (g.M.Machine.lists l.self.machine.now).starts l.i)

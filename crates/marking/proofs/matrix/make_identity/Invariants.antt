@@ -1,5 +1,0 @@
-use Rattle.marking.specs.Relations.{Identity}
-use Rattle.marking.proofs.matrix.make_identity.Given as goal
-
-abbrev pub invariant-loop-x : goal.invariant-loop-x
-invariant-loop-x l = Identity l.cells l.n l.x
