@@ -5,15 +5,16 @@
 use anyhow::anyhow;
 use reports::faults::fault_text;
 use std::io::Read;
-use tables::open::enough_bytes;
 use texts::lists::Entries;
 use texts::reading::read_text;
 use texts::unread::Unread;
 use writing::table::write_table;
 
+// The longest table has so many bytes.
+const LONGEST: usize = 26118;
+
 fn write(rt: &HostRuntime, entries: &Entries) -> anyhow::Result<()> {
-    // room for a byte more than the longest table has
-    let mut out = vec![in rt.alloc(); 0; enough_bytes()]?;
+    let mut out = [0; LONGEST];
     match write_table(&entries.starts, &entries.accepts, &entries.rows, &mut out) {
         Ok(size) => rt.write_all(&out[..size])?,
         Err(fault) => rt.print(fault_text(rt.alloc(), fault)?.as_str())?,

@@ -23,7 +23,7 @@ impl Nodes<'_> {
         ensures next { result ≡ slice_index self.entry.nexts.now x }
         ensures within { result < self.entry.size }
     {
-        self.nexts[x] as usize
+        usize::from(self.nexts[x])
     }
 
     // Whether an inner node has the label, and its next node stands in line j.

@@ -1,5 +1,5 @@
 //! The kinds of files that the programs read.
-ghost use Rattle.std.specs.Prelude.{◌≡◌, ℕ, List, take};
+ghost use Rattle.std.specs.Prelude.{◌≡◌, ℕ, List, take, Some, codes};
 ghost use Rattle.reports.specs.Openings.{open_file, Names};
 
 use std::error::Error;
@@ -32,6 +32,8 @@ impl FromStr for Kind {
 }
 
 impl fmt::Display for UnknownKind {
+    ghost output = { λ _. Some (codes "the argument is `table` or `grammar`") };
+
     fn fmt<W: fmt::Write>(&self, f: &mut fmt::Formatter<W>) -> fmt::Result {
         f.write_str("the argument is `table` or `grammar`")
     }

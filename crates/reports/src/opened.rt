@@ -40,7 +40,7 @@ pub fn file_text(heap: Global, kind: Kind, bytes: &[u8]) -> Result<String, Alloc
     ensures { IfOk result (λ t. string_bytes t ≡ opening_text (open_file kind bytes.now)) }
 {
     match kind {
-        Kind::Table => view_text::<Table>(heap, bytes),
-        Kind::Grammar => view_text::<Grammar>(heap, bytes),
+        Kind::Table => table_text(heap, bytes),
+        Kind::Grammar => grammar_text(heap, bytes),
     }
 }
