@@ -1,11 +1,11 @@
 -- A row applied to the edges.
-use Rattle.std.proofs.Common.{◌≡◌, ℕ, ◌<◌, Bool, true, false, ◌&&◌, T, ltb, leb, List, length, get_or, sym, refl, subst, arith}
+use Rattle.std.proofs.Common.{◌≡◌, ℕ, Bool, true, false, ◌&&◌, T, ltb, leb, List, get_or, refl, arith}
 use Rattle.std.proofs.lemmas.Bool.{leb-true, ltb-true, le-leb, lt-ltb, and_parts, and_from}
 use Rattle.theory.specs.Graph.{Graph}
 use Rattle.marking.specs.declared.nodes.Nodes.{Nodes}
 use Rattle.marking.specs.declared.edges.Edges.{Edges}
-use Rattle.marking.specs.Relations.{Member, Adds, Down, Onto, IsLine}
-use Rattle.marking.specs.Nodes.{Drawn, Joins, Level, Filled, Follows}
+use Rattle.marking.specs.Relations.{Adds, Down, Onto}
+use Rattle.marking.specs.Nodes.{Drawn, Joins, Readers, Follows}
 use Rattle.marking.proofs.Cells.{adds_as}
 use Rattle.marking.proofs.Trails.{level_down}
 
@@ -29,20 +29,13 @@ own_drawn nodes = record {
   next = λ x h k. refl;
 }
 
-module _ (edges : Edges) (word : List ℕ) (q : ℕ) (levels set : List ℕ) (k : ℕ)
-    (line : IsLine levels edges.nodes.size 11 k set) (long : length word ≡ k) where
-  member_level : (g : Graph) → Filled g (Joins edges) word q edges.nodes.size levels k → (z : ℕ) → Member set z → Level g (Joins edges) word q (length word) z
-  member_level g f z m = subst (λ i. Level g (Joins edges) word q i z) (sym long) (f.only k z (omega arith) (line.on z m))
-
-  level_member : (g : Graph) → Filled g (Joins edges) word q edges.nodes.size levels k → (z : ℕ) → z < edges.nodes.size → Level g (Joins edges) word q (length word) z → Member set z
-  level_member g f z h l = line.off z (f.has k z (omega arith) h (subst (λ i. Level g (Joins edges) word q i z) long l))
-
-  pub last_down : ((g : Graph) → Drawn g edges.nodes → Filled g (Joins edges) word q edges.nodes.size levels k) → Down edges.cells.now edges.nodes.size set
-  last_down f u z h m =
+module _ (edges : Edges) (word : List ℕ) (q : ℕ) (set : List ℕ) where
+  pub last_down : ((g : Graph) → Drawn g edges.nodes → Readers g (Joins edges) word q edges.nodes.size set) → Down edges.cells.now edges.nodes.size set
+  last_down r u z h m =
       let g : Graph = own_graph edges.nodes in
-      let fg = f g (own_drawn edges.nodes) in
-      level_member g fg u h.source (level_down g word q edges.order.transitive (member_level g fg z m) u h)
+      let rg = r g (own_drawn edges.nodes) in
+      rg.off u h.source (level_down g word q edges.order.transitive (rg.on z m) u h)
 
   pub last_adds : (b : List ℕ) (f : ℕ) → Adds edges.cells.now b edges.nodes.size edges.nodes.size (Onto edges.cells.now edges.nodes.size set f)
-      → (g : Graph) → Filled g (Joins edges) word q edges.nodes.size levels k → Adds edges.cells.now b edges.nodes.size edges.nodes.size (Follows g edges.cells.now edges.nodes.size f word q)
-  last_adds b f t g fg = adds_as _ t (λ u v r. (member_level g fg u r.0, r.1)) (λ u v hu hv r. (level_member g fg u hu r.0, r.1))
+      → (g : Graph) → Readers g (Joins edges) word q edges.nodes.size set → Adds edges.cells.now b edges.nodes.size edges.nodes.size (Follows g edges.cells.now edges.nodes.size f word q)
+  last_adds b f t g rg = adds_as _ t (λ u v r. (rg.on u r.0, r.1)) (λ u v hu hv r. (rg.off u hu r.0, r.1))

@@ -8,8 +8,8 @@ use Rattle.std.proofs.lemmas.Bool.{cases_lt}
 use Rattle.theory.specs.Graph.{Graph}
 use Rattle.theory.specs.Levels.{Reads}
 use Rattle.marking.specs.declared.edges.Edges.{Edges}
-use Rattle.marking.specs.Relations.{On, Adds}
-use Rattle.marking.specs.Nodes.{Drawn, Joins, Leads, Level, none, again, Filled}
+use Rattle.marking.specs.Relations.{On, Adds, IsLine}
+use Rattle.marking.specs.Nodes.{Drawn, Joins, Leads, Level, none, again, Filled, Readers}
 
 pub all_zero : (ws : List ℕ) → ((k : ℕ) → k < length ws → get_or ws k 0 ≡ 0) → (k : ℕ) → get_or ws k 0 ≡ 0
 all_zero ws h k = ⊎_elim (h k) (get_or_past ws k 0) (cases_lt k (length ws))
@@ -95,3 +95,11 @@ module _ (g : Graph) (edges : Edges) (d : Drawn g edges.nodes) (word : List ℕ)
         | inr r ↦ (let i = r.0 in omega arith)
       ],
     )
+
+-- The last line has the nodes from which the whole word can be read.
+pub readers : (g : Graph) (E : ℕ → ℕ → Type 0) (word : List ℕ) (q n : ℕ) (levels set : List ℕ) (k : ℕ) → length word ≡ k
+    → Filled g E word q n levels k → IsLine levels n 11 k set → Readers g E word q n set
+readers g E word q n levels set k long f line = record {
+  on = λ x m. subst (λ j. Level g E word q j x) (sym long) (f.only k x (omega arith) (line.on x m));
+  off = λ x h v. line.off x (f.has k x (omega arith) h (subst (λ j. Level g E word q j x) long v));
+}

@@ -1,6 +1,6 @@
--- The mark of a row, by the last line of its levels.
-use Rattle.std.proofs.Common.{◌≡◌, ℕ, ◌+◌, ◌<◌, ◌≤◌, Bool, true, false, cond, List, length, get_or, drop, set, Decides, sym, refl, ap, ◌∙◌, subst, inl, inr, arith}
-use Rattle.std.proofs.lemmas.List.{length-take, get_or-take, get_or_default, get_or-set_same, get_or-set_other, same_lists, drop-set-lt, drop-drop}
+-- The mark of a row, by the nodes from which its popped word can be read.
+use Rattle.std.proofs.Common.{◌≡◌, ℕ, ◌+◌, ◌<◌, ◌≤◌, Bool, true, false, cond, List, length, get_or, drop, set, Decides, sym, refl, ◌∙◌, subst, inl, inr, arith}
+use Rattle.std.proofs.lemmas.List.{length-take, get_or-take, get_or_default, get_or-set_same, get_or-set_other, same_lists}
 use Rattle.std.proofs.lemmas.Bool.{cases_eq, false≢true}
 use Rattle.machine.specs.declared.row.Row.{Row}
 use Rattle.machine.specs.Rows.{pops}
@@ -8,40 +8,30 @@ use Rattle.machine.specs.Lists.{Lists}
 use Rattle.machine.specs.Runs.{Reachable, UsefulRow}
 use Rattle.theory.specs.Graph.{Graph}
 use Rattle.marking.specs.declared.edges.Edges.{Edges}
-use Rattle.marking.specs.Relations.{Member, Holds, IsLine, Share}
-use Rattle.marking.specs.Nodes.{Level, Filled}
+use Rattle.marking.specs.Relations.{Holds, IsLine, Share}
+use Rattle.marking.specs.Nodes.{Readers}
 use Rattle.marking.specs.Marks.{row_at, IsMark, Marked, Sets}
 use Rattle.marking.proofs.Cells.{member_in}
 use Rattle.marking.specs.Solving.{Leads, Applies, Solved, Found, FoundAll}
 
-module _ (g : Graph) (n : ℕ) (cells word : List ℕ) (q : ℕ) (levels : List ℕ) (k : ℕ) (long : length word ≡ k)
-    (f : Filled g (Holds cells n) word q n levels k) (last : List ℕ) (line : IsLine levels n 11 k last) where
-  abbrev Reads : ℕ → Type 0
-  Reads x = Level g (Holds cells n) word q (length word) x
+module _ (g : Graph) (n : ℕ) (cells word : List ℕ) (q : ℕ) (last : List ℕ) (r : Readers g (Holds cells n) word q n last)
+    (good sources : List ℕ) (first : ℕ) (l : IsLine good n n first sources) (ahead : List ℕ) (size : length ahead ≡ n) where
+  leads_from : Share last sources → Leads g n cells good word q first
+  leads_from (x, a, b) = (x, r.on x a, l.on x b)
 
-  read_from : (x : ℕ) → Member last x → Reads x
-  read_from x m = subst (λ j. Level g (Holds cells n) word q j x) (sym long) (f.only k x (omega arith) (line.on x m))
+  leads_of : Leads g n cells good word q first → Share last sources
+  leads_of (x, v, h) = (x, r.off x h.source v, l.off x h)
 
-  read_of : (x : ℕ) → x < n → Reads x → Member last x
-  read_of x h v = line.off x (f.has k x (omega arith) h (subst (λ j. Level g (Holds cells n) word q j x) long v))
+  applies_from : Share last ahead → Applies g n cells ahead word q
+  applies_from (x, a, b) = (x, r.on x a, b)
 
-  module _ (good sources : List ℕ) (first : ℕ) (l : IsLine good n n first sources) (ahead : List ℕ) (size : length ahead ≡ n) where
-    leads_from : Share last sources → Leads g n cells good word q first
-    leads_from (x, a, b) = (x, read_from x a, l.on x b)
+  applies_of : Applies g n cells ahead word q → Share last ahead
+  applies_of (x, v, b) = let h = member_in ahead x b in (x, r.off x (omega arith) v, b)
 
-    leads_of : Leads g n cells good word q first → Share last sources
-    leads_of (x, v, h) = (x, read_of x h.source v, l.off x h)
-
-    applies_from : Share last ahead → Applies g n cells ahead word q
-    applies_from (x, a, b) = (x, read_from x a, b)
-
-    applies_of : Applies g n cells ahead word q → Share last ahead
-    applies_of (x, v, b) = let h = member_in ahead x b in (x, read_of x (omega arith) v, b)
-
-    pub found : (u v : Bool) (k : ℕ) → Decides u (Share last sources) → Decides v (Share last ahead) → k ≡ cond u 2 (cond v 1 0) → Found g n cells good ahead word q first k
-    found true v k a b e = inl (e, leads_from (a.0 refl))
-    found false true k a b e = inr (inl (e, λ h. false≢true (a.1 (leads_of h)), applies_from (b.0 refl)))
-    found false false k a b e = inr (inr (e, λ h. false≢true (a.1 (leads_of h)), λ h. false≢true (b.1 (applies_of h))))
+  pub found : (u v : Bool) (k : ℕ) → Decides u (Share last sources) → Decides v (Share last ahead) → k ≡ cond u 2 (cond v 1 0) → Found g n cells good ahead word q first k
+  found true v k a b e = inl (e, leads_from (a.0 refl))
+  found false true k a b e = inr (inl (e, λ h. false≢true (a.1 (leads_of h)), applies_from (b.0 refl)))
+  found false false k a b e = inr (inr (e, λ h. false≢true (a.1 (leads_of h)), λ h. false≢true (b.1 (applies_of h))))
 
 -- a useful row is reachable
 useful_reachable : (m : Lists) (r : Row) → UsefulRow m r → Reachable m r
@@ -109,10 +99,7 @@ one_marking m js ks a b =
     get_or_default js i d 0 lt ∙ one_mark m (row_at m i) (get_or js i 0) (get_or ks i 0) (a.each i (omega arith)) (b.each i (omega arith))
     ∙ get_or_default ks i 0 d (omega arith))
 
--- One mark more, the bytes after it being as they were.
-pub rest_more : (old new : List ℕ) (i v : ℕ) → drop i new ≡ drop i old → drop (i + 1) (set new i v) ≡ drop (i + 1) old
-rest_more old new i v e = drop-set-lt (i + 1) new i v (omega arith) ∙ sym (drop-drop 1 i new) ∙ ap (drop 1) e ∙ drop-drop 1 i old
-
+-- One mark more.
 pub found_more : (m : Lists) (g : Graph) (edges : Edges) (firsts good ahead marks : List ℕ) (i v : ℕ) → i < length marks
     → FoundAll m g edges firsts good ahead marks i → Found g edges.nodes.size edges.cells.now good ahead (pops (row_at m i)) (row_at m i).from (get_or firsts i 0) v → FoundAll m g edges firsts good ahead (set marks i v) (i + 1)
 found_more m g edges firsts good ahead marks i v lt all here j k =

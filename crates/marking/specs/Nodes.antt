@@ -4,7 +4,7 @@ use Rattle.theory.specs.Graph.{Graph}
 use Rattle.theory.specs.Levels.{Reads}
 use Rattle.marking.specs.declared.nodes.Nodes.{Nodes}
 use Rattle.marking.specs.declared.edges.Edges.{Edges}
-use Rattle.marking.specs.Relations.{On, Holds}
+use Rattle.marking.specs.Relations.{Member, On, Holds}
 
 -- The nodes are those of the graph g.
 pub record Drawn (g : Graph) (nodes : Nodes) : Type 0 where
@@ -39,6 +39,11 @@ pub data Level (g : Graph) (E : ℕ → ℕ → Type 0) (word : List ℕ) (q : �
 pub record Filled (g : Graph) (E : ℕ → ℕ → Type 0) (word : List ℕ) (q n : ℕ) (levels : List ℕ) (k : ℕ) : Type 0 where
   pub has : (j z : ℕ) → j ≤ k → z < n → Level g E word q j z → On levels n 11 z j
   pub only : (j z : ℕ) → j ≤ k → On levels n 11 z j → Level g E word q j z
+
+-- The set has the nodes from which the whole word can be read down to q.
+pub record Readers (g : Graph) (E : ℕ → ℕ → Type 0) (word : List ℕ) (q n : ℕ) (set : List ℕ) : Type 0 where
+  pub on : (x : ℕ) → Member set x → Level g E word q (length word) x
+  pub off : (x : ℕ) → x < n → Level g E word q (length word) x → Member set x
 
 -- The relation b has the pairs of a, and besides each pair of a node of the word's last level and a node that f stands before in a.
 abbrev pub Follows : Graph → List ℕ → ℕ → ℕ → List ℕ → ℕ → ℕ → ℕ → Type 0

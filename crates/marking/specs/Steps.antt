@@ -4,13 +4,17 @@ use Rattle.machine.specs.Rows.{symbols_of}
 use Rattle.theory.specs.Graph.{Graph}
 use Rattle.marking.specs.declared.step.Step.{Step}
 use Rattle.marking.specs.Relations.{Holds}
-use Rattle.marking.specs.Nodes.{Joins, Filled}
+use Rattle.marking.specs.Nodes.{Joins, Filled, Readers}
 use Rattle.marking.specs.Ways.{OnWay, Walked}
 use Rattle.marking.specs.Solving.{Found}
 
 -- The lines have the levels of the word.
 abbrev pub HasLevels : Graph → Step → List ℕ → Type 0
 HasLevels g step levels = Filled g (Joins step.edges) (symbols_of step.popped) step.from step.edges.nodes.size levels step.popped.len
+
+-- The set has the nodes from which the whole word can be read.
+abbrev pub HasReaders : Graph → Step → List ℕ → Type 0
+HasReaders g step set = Readers g (Joins step.edges) (symbols_of step.popped) step.from step.edges.nodes.size set
 
 -- The lines have its ways, from the nodes that stand before the first one of what the row pushes in `good`.
 abbrev pub HasWays : Graph → Step → List ℕ → List ℕ → Type 0

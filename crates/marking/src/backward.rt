@@ -96,9 +96,10 @@ impl Step<'_> {
 impl<M: Machine> Joined<'_, M> {
     // Every row once, but for those whose first line has not been touched since they were walked last. Whether any edge is new.
     fn back_round(&self, good: &mut GoodEdges<'_>, work: &mut Work<'_>) -> bool
-        requires sizes { (good.old.size ≡ self.now.edges.nodes.size) × (work.old.size ≡ self.now.edges.nodes.size) }
+        requires sizes { (good.old.size ≡ self.now.edges.nodes.size) × (length work.old.pending.now ≡ self.now.edges.nodes.size) }
         requires pending { (g : Graph) → Drawn g self.now.edges.nodes → Pending (M.Machine.lists self.now.machine.now) self.now.edges self.now.firsts.now g good.old.cells.now work.old.pending.now }
-        ensures sizes { (good.new.size ≡ good.old.size) × (work.new.size ≡ work.old.size) }
+        ensures size { good.new.size ≡ good.old.size }
+        ensures pending { work.new.pending.now ≡ work.old.pending.now }
         ensures round { BackRound (M.Machine.lists self.now.machine.now) self.now.edges self.now.firsts.now work.old.pending.now good.old.cells.now good.new.cells.now good.old.touched.now good.new.touched.now result (length (M.Machine.lists self.now.machine.now).rows) }
     {
         let mut changed = false;
@@ -113,8 +114,8 @@ impl<M: Machine> Joined<'_, M> {
 
     // Rounds until nothing changes: each but the last adds an edge.
     pub(crate) fn saturate_back(&self, good: &mut GoodEdges<'_>, work: &mut Work<'_>)
-        requires { (good.old.size ≡ self.now.edges.nodes.size) × (work.old.size ≡ self.now.edges.nodes.size) }
-        ensures sizes { (good.new.size ≡ good.old.size) × (work.new.size ≡ work.old.size) }
+        requires { (good.old.size ≡ self.now.edges.nodes.size) × (length work.old.pending.now ≡ self.now.edges.nodes.size) }
+        ensures sizes { (good.new.size ≡ good.old.size) × (length work.new.pending.now ≡ length work.old.pending.now) }
         ensures saturated { BackSaturated (M.Machine.lists self.now.machine.now) self.now.edges self.now.firsts.now good.old.cells.now good.new.cells.now }
     {
         fill(work.pending);

@@ -34,9 +34,10 @@ pub(crate) fn draw_rows<M: Machine>(
     ensures { DrewRows (M.Machine.lists m.now) low labels.new nexts.new firsts.new (length (M.Machine.lists m.now).rows) result }
 {
     let mut base = low;
-    for i in 0..m.row_count() {
+    let count = m.row_count();
+    for (i, first) in firsts[..count].iter_mut().enumerate() {
         let row = m.row(i);
-        firsts[i] = draw_word(row.pushed, base, usize::from(row.to), labels, nexts) as u16;
+        *first = draw_word(row.pushed, base, usize::from(row.to), labels, nexts) as u16;
         base += usize::from(row.pushed.len);
     }
     base

@@ -7,7 +7,7 @@ ghost use Rattle.marking.specs.Nodes.{Drawn, Follows};
 ghost use Rattle.marking.specs.Marks.{row_at};
 ghost use Rattle.marking.specs.Rounds.{Round, Saturated};
 
-use crate::graph::{Drawing, Joined};
+use crate::graph::Drawing;
 use crate::order::Order;
 use machine::machine::Machine;
 
@@ -21,16 +21,11 @@ impl<M: Machine> Drawing<'_, M> {
         ensures same { result ≡ false → order.new.cells.now ≡ order.old.cells.now }
         ensures fewer { result ≡ true → zeros order.new.cells.now < zeros order.old.cells.now }
     {
-        let joined = Joined {
-            machine: self.machine,
-            edges: order.edges(self.nodes),
-            firsts: self.firsts,
-        };
+        let joined = self.joined(order);
         let step = joined.step(i);
         let first = step.first;
-        step.fill_levels(levels);
-        let last = step.last_level(levels);
-        order.absorb(first, last)
+        let readers = step.readers(levels);
+        order.absorb(first, readers)
     }
 
     // Every row once. Whether that changed anything.

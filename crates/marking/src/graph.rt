@@ -7,6 +7,7 @@ ghost use Rattle.marking.specs.Shapes.{Fit};
 use crate::drawing::draw_rows;
 use crate::edges::Edges;
 use crate::nodes::Nodes;
+use crate::order::Order;
 use crate::step::Step;
 use machine::machine::Machine;
 
@@ -49,6 +50,23 @@ impl<'a, M: Machine> Drawing<'a, M> {
             machine,
             nodes,
             firsts,
+        }
+    }
+
+    // The same with the order's edges between its nodes.
+    pub(crate) fn joined<'b>(&self, order: &'b Order<'_>) -> Joined<'b, M>
+    where
+        'a: 'b,
+        requires { order.now.size ≡ self.now.nodes.size }
+        ensures machine { result.machine.now ≡ self.now.machine.now }
+        ensures firsts { result.firsts.now ≡ self.now.firsts.now }
+        ensures nodes { result.edges.nodes ≡ self.now.nodes }
+        ensures cells { result.edges.cells.now ≡ order.now.cells.now }
+    {
+        Joined {
+            machine: self.machine,
+            edges: order.edges(self.nodes),
+            firsts: self.firsts,
         }
     }
 }

@@ -10,7 +10,6 @@ use crate::graph::Joined;
 use crate::mark::Mark;
 use crate::sets::share;
 use crate::step::Step;
-use crate::work::Work;
 use machine::machine::Machine;
 
 // The byte of a row's mark.
@@ -27,10 +26,9 @@ impl Step<'_> {
         requires levels { length levels.old ≡ 11 * self.edges.nodes.size }
         ensures { (g : Graph) → Drawn g self.entry.edges.nodes → HasMark g self.entry good.now.cells.now ahead.now result }
     {
-        self.fill_levels(levels);
-        let last = self.last_level(levels);
-        let useful = share(last, good.sources(self.first));
-        mark(useful, share(last, ahead))
+        let readers = self.readers(levels);
+        let useful = share(readers, good.sources(self.first));
+        mark(useful, share(readers, ahead))
     }
 }
 
@@ -40,17 +38,19 @@ impl<M: Machine> Joined<'_, M> {
         &self,
         good: &GoodEdges<'_>,
         ahead: &[u16],
-        work: &mut Work<'_>,
+        levels: &mut [u16],
         marks: &mut [u8],
     )
         requires ahead { length ahead.now ≡ self.now.edges.nodes.size }
-        requires sizes { (good.now.size ≡ self.now.edges.nodes.size) × (work.old.size ≡ self.now.edges.nodes.size) }
+        requires good { good.now.size ≡ self.now.edges.nodes.size }
+        requires levels { length levels.old ≡ 11 * self.now.edges.nodes.size }
         requires marks { length (M.Machine.lists self.now.machine.now).rows ≤ length marks.old }
         ensures found { (g : Graph) → Drawn g self.now.edges.nodes → FoundAll (M.Machine.lists self.now.machine.now) g self.now.edges self.now.firsts.now good.now.cells.now ahead.now marks.new (length (M.Machine.lists self.now.machine.now).rows) }
         ensures rest { drop (length (M.Machine.lists self.now.machine.now).rows) marks.new ≡ drop (length (M.Machine.lists self.now.machine.now).rows) marks.old }
     {
-        for i in 0..self.machine.row_count() {
-            marks[i] = self.step(i).judge(good, ahead, work.levels);
+        let count = self.machine.row_count();
+        for (i, mark) in marks[..count].iter_mut().enumerate() {
+            *mark = self.step(i).judge(good, ahead, levels);
         }
     }
 }

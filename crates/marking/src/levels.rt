@@ -1,30 +1,13 @@
 //! The levels of a popped word: line j has each node from which a trail reads the first j symbols and comes to a row's from state.
-ghost use Rattle.std.specs.Prelude.{◌≡◌, ◌+◌, ◌*◌, ◌<◌, length, Decides};
+ghost use Rattle.std.specs.Prelude.{◌≡◌, ◌+◌, ◌*◌, ◌<◌, length};
 ghost use Rattle.theory.specs.Graph.{Graph};
-ghost use Rattle.marking.specs.Relations.{On, Holds, Adds, IsLine};
+ghost use Rattle.marking.specs.Relations.{Holds, Adds};
 ghost use Rattle.marking.specs.Nodes.{Drawn, Leads};
-ghost use Rattle.marking.specs.Steps.{HasLevels};
+ghost use Rattle.marking.specs.Steps.{HasLevels, HasReaders};
 
 use crate::edges::Edges;
-use crate::matrix::{add, has};
 use crate::sets::{clear_front, line, take_in};
 use crate::step::Step;
-
-// Whether node z stands in line j.
-pub(crate) fn is_on(levels: &[u16], n: usize, z: usize, j: usize) -> bool
-    requires { (z < n) × ((j < 11) × (length levels.now ≡ 11 * n)) }
-    ensures { Decides result (On levels.now n 11 z j) }
-{
-    has(levels, n, z, j)
-}
-
-// Node z comes to stand in line j.
-pub(crate) fn put_on(levels: &mut [u16], n: usize, z: usize, j: usize)
-    requires { (z < n) × ((j < 11) × (length levels.old ≡ 11 * n)) }
-    ensures { Adds levels.old levels.new n 11 (λ u v. (u ≡ z) × (v ≡ j)) }
-{
-    add(levels, n, z, j);
-}
 
 impl Edges<'_> {
     // Line j takes in each node that stands before x.
@@ -63,12 +46,13 @@ impl Step<'_> {
         }
     }
 
-    // The last of them, once they are filled: the nodes from which the whole word can be read.
-    pub(crate) fn last_level<'b>(self, levels: &'b [u16]) -> &'b [u16]
-        requires { length levels.now ≡ 11 * self.edges.nodes.size }
-        ensures { IsLine levels.now self.entry.edges.nodes.size 11 self.entry.popped.len result.now }
+    // The last of them: the nodes from which the whole word can be read.
+    pub(crate) fn readers<'b>(self, levels: &'b mut [u16]) -> &'b [u16]
+        requires { length levels.old ≡ 11 * self.edges.nodes.size }
+        ensures long { length result.now ≡ self.entry.edges.nodes.size }
+        ensures reads { (g : Graph) → Drawn g self.entry.edges.nodes → HasReaders g self.entry result.now }
     {
-        let len = usize::from(self.popped.len);
-        line(levels, self.edges.nodes.size, len)
+        self.fill_levels(levels);
+        line(levels, self.edges.nodes.size, usize::from(self.popped.len))
     }
 }

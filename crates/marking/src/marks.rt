@@ -8,7 +8,7 @@ ghost use Rattle.marking.specs.Rounds.{Draws};
 
 use crate::counts::{Counts, count_marks};
 use crate::good::GoodEdges;
-use crate::graph::{Drawing, Joined};
+use crate::graph::Drawing;
 use crate::need::{node_count, scratch_need};
 use crate::order::Order;
 use crate::useful::{Useful, flag_accepts, flag_starts};
@@ -44,18 +44,14 @@ impl<M: Machine> Drawing<'_, M> {
             touched,
         };
         let mut work = Work {
-            size: n,
             levels,
             ways,
             pending,
         };
         self.solve(&mut order, &mut good, ahead, behind, &mut work);
-        let joined = Joined {
-            machine: self.machine,
-            edges: order.edges(self.nodes),
-            firsts: self.firsts,
-        };
-        joined.judge_rows(&good, ahead, &mut work, marks);
+        let levels = work.levels;
+        let joined = self.joined(&order);
+        joined.judge_rows(&good, ahead, levels, marks);
         Useful {
             counts: count_marks(&marks[0..self.machine.row_count()]),
             starts: flag_starts(self.machine, behind),

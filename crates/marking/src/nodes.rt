@@ -2,7 +2,7 @@
 ghost use Rattle.std.specs.Prelude.{◌≡◌, ◌*◌, ◌<◌, ◌≤◌, length, Decides, slice_index};
 ghost use Rattle.marking.specs.Shapes.{Shaped};
 
-use crate::levels::is_on;
+use crate::matrix::has;
 
 // Nodes from `low` on are inner: each has a label, the symbol that it stands for, and a next node.
 #[derive(Clone, Copy)]
@@ -32,6 +32,6 @@ impl Nodes<'_> {
         requires lines { (j < 11) × (length levels.now ≡ 11 * self.size) }
         ensures { Decides result (GoesOn self.entry label levels.now j x) }
     {
-        self.labels[x] == label && is_on(levels, self.size, self.next(x), j)
+        self.labels[x] == label && has(levels, self.size, self.next(x), j)
     }
 }

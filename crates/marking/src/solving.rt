@@ -6,7 +6,7 @@ ghost use Rattle.marking.specs.Rounds.{Draws};
 ghost use Rattle.marking.specs.Solving.{Solved};
 
 use crate::good::GoodEdges;
-use crate::graph::{Drawing, Joined};
+use crate::graph::Drawing;
 use crate::order::Order;
 use crate::work::Work;
 use machine::machine::Machine;
@@ -23,16 +23,12 @@ impl<M: Machine> Drawing<'_, M> {
     )
         requires begin { Identity order.old.cells.now self.now.nodes.size self.now.nodes.size }
         requires sets { (length ahead.old ≡ self.now.nodes.size) × (length behind.old ≡ self.now.nodes.size) }
-        requires sizes { (order.old.size ≡ self.now.nodes.size) × ((good.old.size ≡ self.now.nodes.size) × (work.old.size ≡ self.now.nodes.size)) }
-        ensures sizes { (order.new.size ≡ order.old.size) × ((good.new.size ≡ good.old.size) × (work.new.size ≡ work.old.size)) }
+        requires sizes { (order.old.size ≡ self.now.nodes.size) × ((good.old.size ≡ self.now.nodes.size) × (length work.old.pending.now ≡ self.now.nodes.size)) }
+        ensures sizes { (order.new.size ≡ order.old.size) × ((good.new.size ≡ good.old.size) × (length work.new.pending.now ≡ length work.old.pending.now)) }
         ensures solved { (g : Graph) → Draws (M.Machine.lists self.now.machine.now) self.now.nodes self.now.firsts.now g → Solved (M.Machine.lists self.now.machine.now) g self.now.nodes.size self.now.firsts.now order.new.cells.now good.new.cells.now ahead.new behind.new }
     {
         self.saturate(order, work.levels);
-        let joined = Joined {
-            machine: self.machine,
-            edges: order.edges(self.nodes),
-            firsts: self.firsts,
-        };
+        let joined = self.joined(order);
         joined.find_ahead(ahead);
         joined.find_behind(behind);
         joined.edges.begin_good(ahead, behind, good);

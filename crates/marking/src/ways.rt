@@ -9,7 +9,7 @@ ghost use Rattle.marking.specs.Ways.{Comes};
 
 use crate::edges::Edges;
 use crate::good::GoodEdges;
-use crate::levels::put_on;
+use crate::matrix::add;
 use crate::sets::{clear_front, line, share, take_in};
 use crate::source::Both;
 use crate::step::Step;
@@ -36,7 +36,7 @@ impl Edges<'_> {
             if self.nodes.goes_on(x, label, levels, j)
                 && share(self.sources(x), line(ways, n, j + 1))
             {
-                put_on(ways, n, self.nodes.next(x), j);
+                add(ways, n, self.nodes.next(x), j);
             }
         }
     }

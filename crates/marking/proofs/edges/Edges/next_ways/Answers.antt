@@ -11,7 +11,7 @@ loop-x-preserved c =
           let (z, a, b) = w.if-share.ensures.0 refl in
           let l = w.sources.ensures in
           let m = w.line.ensures.1 11 (omega arith) (omega arith) in
-          simp w.ways-is (comes_more _ _ _ _ _ _ _ c.loop-x.invariant w.put_on.new.levels w.next.result w.next.ensures.next w.put_on.ensures (omega arith) (w.if-goes_on.ensures.0 refl) z (l.on z a) (m.on z b))
+          simp w.ways-is (comes_more _ _ _ _ _ _ _ c.loop-x.invariant w.add.new.words w.next.result w.next.ensures.next (w.add.ensures 11 (omega arith) (omega arith)) (omega arith) (w.if-goes_on.ensures.0 refl) z (l.on z a) (m.on z b))
       | else-goes_on w ↦ simp w.ways-is (comes_skip _ _ _ _ _ _ _ c.loop-x.invariant (λ o s h k. elim w.else-goes_on.branch [
         | else-goes_on-via-then-goes_on+else-share v ↦
             let l = v.sources.ensures in

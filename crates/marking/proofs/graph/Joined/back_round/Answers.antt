@@ -22,7 +22,7 @@ loop-i-preserved g c =
           let d = w.go_back-changed.new.good.cells.now in
           let r = w.go_back-changed.result in
           simp (w.good-is, w.work-is, w.changed-is) (record {
-            sizes = (w.go_back-changed.ensures.size ∙ l.sizes.0, l.sizes.1);
+            size = w.go_back-changed.ensures.size ∙ l.size;
             pending = l.pending;
             round = back_more m _ _ _ _ _ _ _ _ c.loop-i.i h l.round d w.go_back-changed.new.good.touched.now r
                 (row (λ e p q f. (x : Graph) → Drawn x e.nodes → Steps b d e.nodes.size (OnWay x (Joins e) (Holds b e.nodes.size) (symbols_of p) q f) r) w.go_back-changed.ensures.steps)
@@ -34,7 +34,7 @@ loop-i-preserved g c =
           let q = ap (λ k. get_or k f 0) l.pending in
           let t = ap (λ k. get_or c.loop-i.good.touched.now k 0) s.first in
           simp (w.good-is, w.work-is, w.changed-is) (record {
-            sizes = l.sizes;
+            size = l.size;
             pending = l.pending;
             round = back_skip m _ _ _ _ _ _ _ _ c.loop-i.i h l.round (λ z. omega (arith, c.max.ensures, p, q)) (λ z. omega (arith, c.max.ensures, t));
           })
@@ -45,4 +45,4 @@ returns g c =
     let m = g.M.Machine.lists c.args.self.now.machine.now in
     let e : c.loop-i.i ≡ length m.rows = omega (arith, c.row_count-i-end.ensures) in
     let round = c.loop-i.invariant.round in
-    record { sizes = c.loop-i.invariant.sizes; round = rw e at round }
+    record { size = c.loop-i.invariant.size; pending = c.loop-i.invariant.pending; round = rw e at round }
