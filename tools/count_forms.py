@@ -82,7 +82,7 @@ def refusals(folder):
 
 def index_loops(folder):
     for place, _, _, body in functions(folder):
-        for found in re.finditer(r"for (\w+|\(\w+, \w+\)) in ([^{]*?\.\.[^{]*|\([^{]*\)\.rev\(\)) \{", body):
+        for found in re.finditer(r"for (\w+|\(\w+, \w+\)) in ([^{\[]*?\.\.[^{]*|\([^{]*\)\.rev\(\)) \{", body):
             yield f"{place}: for {found.group(1)} in {found.group(2)}"
         for found in re.finditer(r"for \((\w+), \w+\) in [^{]*enumerate\(\) \{(.*)", body, re.S):
             if re.search(r"return (?:Some\()?" + found.group(1) + r"\b|\[" + found.group(1) + r"\b", found.group(2)):
