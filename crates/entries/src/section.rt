@@ -56,17 +56,19 @@ pub fn check_entries<T: Entry>(bytes: &[u8], section: u8, count: usize) -> Resul
     Ok(rest)
 }
 
-fn read_count(bytes: &[u8], section: u8, most: usize) -> Result<usize, Fault>
-    ensures { result ≡ read_count section most bytes.now }
+// The number of a section's entries, and the bytes past it.
+fn read_count(bytes: &[u8], section: u8, most: usize) -> Result<(usize, &[u8]), Fault>
+    ensures outcome { MatchResult result (λ p. read_count section most bytes.now ≡ Ok p.0) (λ f. read_count section most bytes.now ≡ Err f) }
+    ensures body { IfOk result (λ p. p.1.now ≡ drop 2 bytes.now) }
 {
-    let [high, low, ..] = bytes else {
+    let Some((count, body)) = bytes.split_first_chunk::<2>() else {
         return Err(Rule::Short.at(section, 0));
     };
-    let count = usize::from(u16::from_be_bytes([*high, *low]));
+    let count = usize::from(u16::from_be_bytes(*count));
     if count > most {
         return Err(Rule::Count.at(section, 0));
     }
-    Ok(count)
+    Ok((count, body))
 }
 
 // A section of at most `most` entries: its count, then its entries; or the first fault.
@@ -75,8 +77,7 @@ pub fn read_section<T: Entry>(bytes: &[u8], section: u8, most: usize) -> Result<
     ensures entries { IfOk result (λ s. s.entries.now ≡ joined T.sort.encode (entries T.sort s.count (drop 2 bytes.now))) }
     ensures lawful { IfOk result (λ s. Lawful T.sort most (entries T.sort s.count (drop 2 bytes.now)) × (bytes.now ≡ section_bytes T.sort (entries T.sort s.count (drop 2 bytes.now)) ++ s.rest.now)) }
 {
-    let count = read_count(bytes, section, most)?;
-    let body = &bytes[2..];
+    let (count, body) = read_count(bytes, section, most)?;
     let rest = check_entries::<T>(body, section, count)?;
     let entries = &body[..body.len() - rest.len()];
     Ok(Section {

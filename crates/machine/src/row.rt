@@ -1,6 +1,6 @@
 //! A row of a machine: one transition of a pushdown automaton, by value.
 ghost use Rattle.std.specs.Prelude.{◌≡◌};
-ghost use Rattle.machine.specs.Rows.{padded, lawful_word, lawful_row};
+ghost use Rattle.machine.specs.Rows.{padded, lawful_word, lawful_row, symbols_of};
 
 // A word of stack symbols, the first nearest the top. The symbols from `len` on are 0.
 #[derive(Clone, Copy, PartialEq, Eq, Debug)]
@@ -41,6 +41,15 @@ impl Word {
         ensures { result ≡ lawful_word self.now }
     {
         is_padded(self.len, &self.symbols)
+    }
+
+    // The symbols of the word, the first nearest the top of the stack.
+    pub fn symbols(&self) -> &[u8]
+        ensures { result.now ≡ symbols_of self.now }
+    {
+        // a word has no more symbols than its array, whatever `len` says
+        let len = usize::from(self.len).min(self.symbols.len());
+        &self.symbols[..len]
     }
 }
 

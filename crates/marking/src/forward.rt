@@ -21,8 +21,7 @@ impl<M: Machine> Drawing<'_, M> {
         ensures same { result ≡ false → order.new.cells.now ≡ order.old.cells.now }
         ensures fewer { result ≡ true → zeros order.new.cells.now < zeros order.old.cells.now }
     {
-        let joined = self.joined(order);
-        let step = joined.step(i);
+        let step = self.joined(order).step(i);
         let first = step.first;
         let readers = step.readers(levels);
         order.absorb(first, readers)

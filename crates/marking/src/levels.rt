@@ -40,9 +40,9 @@ impl Step<'_> {
         let len = usize::from(self.popped.len);
         clear_front(levels, (len + 1) * self.edges.nodes.size);
         self.edges.add_line(self.from, levels, 0);
-        for j in 0..len {
-            let label = u16::from(self.popped.symbols[j]);
-            self.edges.next_level(label, levels, j);
+        let symbols = &self.popped.symbols[..len];
+        for (j, symbol) in symbols.iter().enumerate() {
+            self.edges.next_level(u16::from(*symbol), levels, j);
         }
     }
 

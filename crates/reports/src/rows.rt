@@ -1,10 +1,9 @@
 //! The line of a row.
-ghost use Rattle.std.specs.Prelude.{◌≡◌, Some};
-ghost use Rattle.machine.specs.Rows.{symbols_of};
+ghost use Rattle.std.specs.Prelude.{Some};
 ghost use Rattle.reports.specs.Texts.{row_text};
 
 use crate::numbers::Numbers;
-use machine::row::{Row, Word};
+use machine::row::Row;
 use std::fmt;
 
 // A row, with the place by which the machine is asked for it.
@@ -12,15 +11,6 @@ use std::fmt;
 pub(crate) struct PlacedRow {
     pub(crate) place: usize,
     pub(crate) row: Row,
-}
-
-// The symbols of a word, the first nearest the top of the stack.
-fn symbols(word: &Word) -> &[u8]
-    ensures { result.now ≡ symbols_of word.now }
-{
-    // a word has no more symbols than its array, whatever `len` says
-    let len = usize::from(word.len).min(word.symbols.len());
-    &word.symbols[..len]
 }
 
 impl fmt::Display for PlacedRow {
@@ -35,8 +25,8 @@ impl fmt::Display for PlacedRow {
             popped,
             pushed,
         } = row;
-        let pop = Numbers(symbols(&popped));
-        let push = Numbers(symbols(&pushed));
+        let pop = Numbers(popped.symbols());
+        let push = Numbers(pushed.symbols());
         writeln!(
             f,
             "row {place} from {from} letter {letter} to {to} pop{pop} push{push}"

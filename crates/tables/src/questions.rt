@@ -21,11 +21,11 @@ fn state_at(states: &[u8], place: usize) -> u8
 fn above_states(states: &[u8]) -> usize
     ensures { result ≡ above states.now }
 {
-    let mut above: usize = 0;
-    for state in states {
-        above = above.max(usize::from(*state) + 1);
-    }
-    above
+    states
+        .iter()
+        .copied()
+        .max()
+        .map_or(0, |state| usize::from(state) + 1)
 }
 
 impl Machine for Table<'_> {
@@ -43,14 +43,14 @@ impl Machine for Table<'_> {
 
     fn width(&self) -> usize {
         let states = above_states(self.starts).max(above_states(self.accepts));
-        let mut width = states;
-        for place in 0..self.row_count() {
-            let row = self.row(place);
-            width = width
-                .max(usize::from(row.from) + 1)
-                .max(usize::from(row.to) + 1);
-        }
-        width
+        let rows = (0..self.row_count())
+            .map(|place| {
+                let row = self.row(place);
+                usize::from(row.from.max(row.to)) + 1
+            })
+            .max()
+            .unwrap_or(0);
+        states.max(rows)
     }
 
     fn start_count(&self) -> usize {

@@ -24,9 +24,6 @@ pub fn write_table(
     stage.put_all(out, accepts)?;
     let mut stage = stage.next(out);
     stage.put_all(out, rows)?;
-    match stage.finish(out) {
-        // the output is too short for three counts
-        0 => Err(Rule::Output.at(0, 0)),
-        size => Ok(size),
-    }
+    // the output may be too short for three counts
+    stage.size_written(out).ok_or(Rule::Output.at(0, 0))
 }

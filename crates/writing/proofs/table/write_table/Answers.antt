@@ -1,7 +1,7 @@
-use Rattle.std.proofs.Common.{refl, arith}
+use Rattle.std.proofs.Common.{refl}
 use Rattle.std.proofs.lemmas.Result.{err_from_is_err_and}
 use Rattle.writing.specs.Wholes.Unwritten.{in_starts, in_accepts, in_rows}
-use Rattle.writing.proofs.Wholes.{starts_fit, accepts_fit, long_enough, nothing, never_nothing, within}
+use Rattle.writing.proofs.Wholes.{starts_fit, accepts_fit, ended, ended_well}
 use Rattle.writing.proofs.table.write_table.Goals as goal
 
 pub returns-in_err-put_all : goal.returns-in_err-put_all
@@ -37,26 +37,13 @@ returns-in_err-put_all-3 c =
       welcome = λ l n. b.welcome _ _ u refl l.rows n;
     })
 
-pub returns-in-0 : goal.returns-in-0
-returns-in-0 c =
+pub returns : goal.returns
+returns c =
     let w = c.begin-stage.ensures.history c.args.out.now in
     let v = c.next-stage.ensures.history _ _ (c.in_ok-put_all.ensures.outcome _ _ w refl) in
     let u = c.next-stage-2.ensures.history _ _ (c.in_ok-put_all-2.ensures.outcome _ _ v refl) in
-    let t = c.finish.ensures.history _ _ (c.in_ok-put_all-3.ensures.outcome _ _ u refl) in
+    let t = c.size_written.ensures.outcome _ _ (c.in_ok-put_all-3.ensures.outcome _ _ u refl) in
     record {
-      outcome = nothing _ _ _ _ t c.in-0.is _ c.at.ensures;
-      welcome = λ l n. absurd (never_nothing _ _ _ _ t c.in-0.is n);
-    }
-
-pub returns-in_default : goal.returns-in_default
-returns-in_default c =
-    let w = c.begin-stage.ensures.history c.args.out.now in
-    let v = c.next-stage.ensures.history _ _ (c.in_ok-put_all.ensures.outcome _ _ w refl) in
-    let u = c.next-stage-2.ensures.history _ _ (c.in_ok-put_all-2.ensures.outcome _ _ v refl) in
-    let r = c.in_ok-put_all-3.ensures.outcome _ _ u refl in
-    let t = c.finish.ensures.history _ _ r in
-    let g = long_enough _ _ _ _ t (omega arith) in
-    record {
-      outcome = record { long = g; fits = within _ _ _ _ t _ _ r g; finished = t; opens = c.finish.ensures.opens _ _ r g };
-      welcome = λ l n. refl;
+      outcome = ended _ _ _ c.size_written.result _ _ t c.at.ensures c.ok_or.ensures.value;
+      welcome = λ l n. ended_well _ _ _ c.size_written.result _ _ t n c.ok_or.ensures.value;
     }

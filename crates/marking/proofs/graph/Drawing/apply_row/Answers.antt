@@ -13,15 +13,15 @@ pub absorb-requires-clause-down : goal.absorb-requires-clause-down
 absorb-requires-clause-down g c =
     let s = c.step-step.result in
     let e = c.step-step.ensures.edges in
-    let j = c.joined-joined.ensures in
+    let j = c.joined.ensures in
     rw (c.requires.shape.0, ← j.cells, ← j.nodes) (subst (λ (x : Edges). Down x.cells.now x.nodes.size c.readers-readers.result.now) e (last_down s.edges (symbols_of s.popped) s.from _ c.readers-readers.ensures.reads))
 
 pub returns-clause-adds : goal.returns-clause-adds
 returns-clause-adds g c = λ w d.
     let s = c.step-step.result in
     let e = c.step-step.ensures in
-    let j = c.joined-joined.ensures in
-    let r = c.joined-joined.result in
+    let j = c.joined.ensures in
+    let r = c.joined.result in
     let new = c.absorb.new.self.cells.now in
     let set = c.readers-readers.result.now in
     let onto = rw (← e.edges) at (rw (c.requires.shape.0, ← j.cells, ← j.nodes) at c.absorb.ensures.adds) in

@@ -1,4 +1,5 @@
 use Rattle.std.proofs.Common.{◌≡◌, ℕ, sym, ap, ◌∙◌, subst, arith}
+use Rattle.std.proofs.lemmas.List.{get_or-take}
 use mathlib.Core.Option.{Option, some}
 use Rattle.machine.specs.Rows.{symbols_of}
 use Rattle.marking.specs.Nodes.{Joins, Filled}
@@ -13,7 +14,7 @@ loop-j-preserved c = λ g d.
     let few = c.args.self.few in
     let h = c.loop-j.invariant g d in
     filled_more g c.args.self.edges d (symbols_of c.args.self.popped) c.args.self.from c.from-len.result c.loop-j.levels c.next_level.new.levels c.loop-j.j _ h.0 h.1 (omega arith)
-    (symbol_at c.args.self.popped.symbols c.args.self.popped.len c.loop-j.j (omega (arith, c.from-len.ensures)) (omega (arith, c.from-len.ensures)) ∙ ap {B = Option ℕ} some (sym c.from-label.ensures)) c.next_level.ensures (omega (arith, c.from-len.ensures))
+    (symbol_at c.args.self.popped.symbols c.args.self.popped.len c.loop-j.j (omega (arith, c.from-len.ensures)) (omega (arith, c.from-len.ensures)) ∙ ap {B = Option ℕ} some (sym (get_or-take c.from-len.result c.args.self.popped.symbols c.loop-j.j 0 (omega arith)) ∙ sym c.from.ensures)) c.next_level.ensures (omega (arith, c.from-len.ensures))
 
 pub returns : goal.returns
 returns c = λ g d.

@@ -1,28 +1,26 @@
-use Rattle.std.proofs.Common.{◌≡◌, ℕ, ◌+◌, ◌<◌, ◌≤◌, max, ◌++◌, length, drop, ap, ◌∙◌, ap₂, arith}
+use Rattle.std.proofs.Common.{◌≡◌, ℕ, ◌++◌, rules, length, get_or, unwrap_or, max, map, sym, ap, ◌∙◌, arith}
+use Rattle.std.specs.List.{reduce, range_with_len}
+use Rattle.std.proofs.lemmas.Iterator.{YieldsList-from_range, YieldsList-from_map}
+use Rattle.std.proofs.lemmas.Iterator.Adapters.{option_map_id}
+use Rattle.std.proofs.lemmas.Iterator.Consumers.{max_from_yields_List}
 use Rattle.machine.specs.Rows.{zero_row}
 use Rattle.machine.specs.Lists.{above, ends}
 use Rattle.tables.specs.Tables.{lists_of}
 use Rattle.tables.proofs.Places.{places}
 use Rattle.machine.proofs.Largest.{above-append}
-use Rattle.tables.proofs.Widths.{rows_step, rows_finish}
+use Rattle.tables.proofs.Widths.{top, tops, placed}
 use Rattle.tables.proofs.questions.TableMachine.width.Goals as goal
-
-pub loop-place-preserved : goal.loop-place-preserved
-loop-place-preserved c =
-    let t = c.args.self.now in
-    let rs = (lists_of t.bytes.now).rows in
-    let i = c.loop-place.place in
-    let h : i < length rs = omega (arith, c.row_count-place-end.ensures) in
-    let e : c.max-width.result ≡ max (max c.loop-place.width (c.row-row.result.from + 1)) (c.row-row.result.to + 1) =
-    c.max-width.ensures ∙ ap₂ {C = ℕ} (λ k j. max k (j + 1)) (c.max.ensures ∙ ap (λ k. max c.loop-place.width (k + 1)) c.from.ensures) c.from-in-loop-place.ensures in
-    ap (λ k. max k (above (ends (drop (i + 1) rs)))) e ∙ rows_step rs zero_row i c.loop-place.width _ c.row-row.result c.row-row.ensures h c.loop-place.invariant
 
 pub returns : goal.returns
 returns c =
     let t = c.args.self.now in
     let m = lists_of t.bytes.now in
-    let h : length m.rows ≤ c.loop-place.place = omega (arith, c.row_count-place-end.ensures) in
-    let e = rows_finish m.rows c.loop-place.place c.loop-place.width _ h c.loop-place.invariant in
+    let f : ℕ → ℕ = λ i. top (get_or m.rows i zero_row) in
+    let largest : c.max.result ≡ reduce max (map f (range_with_len 0 (length m.rows))) =
+    sym (option_map_id _)
+    ∙ max_from_yields_List _ _ c.max.ensures.ran (YieldsList-from_map _ f (YieldsList-from_range 0 c.row_count.result (length m.rows) c.map.ensures.source (omega (arith, c.row_count.ensures))) c.map.ensures.closure (λ x r q k. search rules)) in
+    let r : c.unwrap_or-rows.result ≡ above (ends m.rows) =
+    c.unwrap_or-rows.ensures ∙ ap (λ o. unwrap_or o 0) (largest ∙ ap (reduce max) (placed f zero_row m.rows 0 (λ i. ap f (omega arith)))) ∙ tops m.rows in
     let a : c.above_states.result ≡ above m.starts = c.above_states.ensures ∙ ap above (places t).starts in
     let b : c.above_states-2.result ≡ above m.accepts = c.above_states-2.ensures ∙ ap above (places t).accepts in
-    omega (arith, e, a, b, c.max-states.ensures, above-append m.starts (m.accepts ++ ends m.rows), above-append m.accepts (ends m.rows))
+    omega (arith, r, a, b, c.max-states.ensures, c.max-2.ensures, above-append m.starts (m.accepts ++ ends m.rows), above-append m.accepts (ends m.rows))
