@@ -45,7 +45,7 @@ impl<'a> Grammar<'a> {
 impl<'a> TryFrom<&'a [u8]> for Grammar<'a> {
     type Error = Fault;
 
-    ghost try_from_gives = { λ bytes r. MatchResult r (λ g. (open_grammar bytes.now ≡ Ok (grammar_of bytes.now)) × (g.sections.bytes ≡ bytes)) (λ f. open_grammar bytes.now ≡ Err f) };
+    ghost try_from_gives = { λ bytes r. MatchResult r (λ g. (open_grammar bytes.now ≡ Ok (grammar_of bytes.now)) × (g.sections.bytes ≡ bytes)) (λ f. open_grammar bytes.now ≡ Err f) × (OnOk r (LawfulGrammar (grammar_of bytes.now) × (bytes.now ≡ encode_grammar (grammar_of bytes.now))) × GrammarLaws) };
 
     fn try_from(bytes: &'a [u8]) -> Result<Grammar<'a>, Fault> {
         let sections = Sections::read(bytes)?;

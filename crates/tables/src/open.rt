@@ -61,7 +61,7 @@ impl<'a> Table<'a> {
 impl<'a> TryFrom<&'a [u8]> for Table<'a> {
     type Error = Fault;
 
-    ghost try_from_gives = { λ bytes r. MatchResult r (λ t. (open_table bytes.now ≡ Ok (lists_of bytes.now)) × (t.bytes ≡ bytes)) (λ f. open_table bytes.now ≡ Err f) };
+    ghost try_from_gives = { λ bytes r. MatchResult r (λ t. (open_table bytes.now ≡ Ok (lists_of bytes.now)) × (t.bytes ≡ bytes)) (λ f. open_table bytes.now ≡ Err f) × (OnOk r (LawfulTable (lists_of bytes.now) × (bytes.now ≡ encode_table (lists_of bytes.now))) × TableLaws) };
 
     fn try_from(bytes: &'a [u8]) -> Result<Table<'a>, Fault> {
         let File {
