@@ -104,9 +104,10 @@ impl<M: Machine> Joined<'_, M> {
     {
         let mut changed = false;
         for i in 0..self.machine.row_count() {
-            let step = self.step(i);
-            if work.pending[step.first].max(good.touched[step.first]) != 0 {
-                changed |= step.go_back(work.levels, work.ways, good);
+            // a row that is not walked is not asked for either
+            let first = self.first(i);
+            if work.pending[first].max(good.touched[first]) != 0 {
+                changed |= self.step(i).go_back(work.levels, work.ways, good);
             }
         }
         changed

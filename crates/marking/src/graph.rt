@@ -83,6 +83,15 @@ pub(crate) struct Joined<'a, M: Machine> {
 impl<'a, M: Machine> Joined<'a, M> {
     ghost use Rattle.marking.specs.Marks.{row_at};
 
+    // The first node of what the row at a place pushes.
+    pub(crate) fn first(&self, i: usize) -> usize
+        requires { i < length (M.Machine.lists self.now.machine.now).rows }
+        ensures first { result ≡ slice_index self.now.firsts.now i }
+        ensures within { result < self.now.edges.nodes.size }
+    {
+        usize::from(self.firsts[i])
+    }
+
     // The row at a place.
     pub(crate) fn step(&self, i: usize) -> Step<'a>
         requires { i < length (M.Machine.lists self.now.machine.now).rows }
@@ -96,7 +105,7 @@ impl<'a, M: Machine> Joined<'a, M> {
             edges: self.edges,
             popped: row.popped,
             from: usize::from(row.from),
-            first: usize::from(self.firsts[i]),
+            first: self.first(i),
         }
     }
 }

@@ -13,11 +13,11 @@ pub loop-i-preserved : goal.loop-i-preserved
 loop-i-preserved g c =
     let m = g.M.Machine.lists c.args.self.now.machine.now in
     let h : c.loop-i.i < length m.rows = omega (arith, c.row_count-i-end.ensures) in
-    let s = c.step-step.ensures in
     let l = c.loop-i.invariant in
     elim c.if-max-ne0.branch [
       | then-max-ne0 w ↦
-          let row = as_row m _ _ c.loop-i.i c.step-step.result s.edges s.popped s.from s.first in
+          let s = w.step.ensures in
+          let row = as_row m _ _ c.loop-i.i w.step.result s.edges s.popped s.from s.first in
           let b = c.loop-i.good.cells.now in
           let d = w.go_back-changed.new.good.cells.now in
           let r = w.go_back-changed.result in
@@ -29,10 +29,11 @@ loop-i-preserved g c =
                 (row (λ e _ _ _. Touches b d e.nodes.size c.loop-i.good.touched.now w.go_back-changed.new.good.touched.now r) w.go_back-changed.ensures.touches);
           })
       | else-max-ne0 w ↦
+          let s = c.first-first.ensures.first in
           let f : ℕ = get_or c.args.self.now.firsts.now c.loop-i.i 0 in
-          let p = ap (λ k. get_or c.loop-i.work.pending.now k 0) s.first in
+          let p = ap (λ k. get_or c.loop-i.work.pending.now k 0) s in
           let q = ap (λ k. get_or k f 0) l.pending in
-          let t = ap (λ k. get_or c.loop-i.good.touched.now k 0) s.first in
+          let t = ap (λ k. get_or c.loop-i.good.touched.now k 0) s in
           simp (w.good-is, w.work-is, w.changed-is) (record {
             size = l.size;
             pending = l.pending;

@@ -12,5 +12,4 @@ invariant_of-result g c =
     let w = (both c.row-row.result l).0 in
     let same = ap (λ (r : Row). r.from) c.row-row.ensures in
     let from = c.args.self.now.fit.from c.args.i c.requires in
-    let first = c.args.self.now.fit.first c.args.i c.requires in
-    record { few = w.few; long = w.long; from_in = omega (arith, c.from.ensures); first_in = omega (arith, c.from-2.ensures) }
+    record { few = w.few; long = w.long; from_in = omega (arith, c.from.ensures); first_in = c.first.ensures.within }
