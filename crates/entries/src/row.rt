@@ -1,7 +1,7 @@
 //! Rows as entries: 25 bytes, ordered byte by byte from the first on.
 ghost use Rattle.std.specs.Prelude.{◌≡◌, ◌+◌, ◌≤◌, true, length};
 ghost use Rattle.entries.specs.Sorts.{Sort, Laws, entry_at, lexical};
-ghost use Rattle.entries.specs.Rows.{rows, row_bytes};
+ghost use Rattle.entries.specs.Rows.{rows, heads, row_bytes};
 ghost use Rattle.machine.specs.Rows.{lawful_row};
 ghost use Rattle.entries.specs.RowBytes.{rows_laws};
 
@@ -9,6 +9,8 @@ use crate::bytes::put_bytes;
 use crate::entry::Entry;
 use machine::row::{Row, Word};
 use std::cmp::Ordering;
+
+const WORD: usize = 10;
 
 const ROW: usize = 25;
 
@@ -26,6 +28,18 @@ fn bytes_of(row: &Row) -> [u8; ROW]
     bytes[5..15].copy_from_slice(&row.popped.symbols);
     bytes[15..25].copy_from_slice(&row.pushed.symbols);
     bytes
+}
+
+// What rows are ordered by: the first five bytes, then the popped word, then the pushed word.
+// To order all 25 bytes as one array takes three times as long, for they are put together first.
+#[inline]
+fn key(row: &Row) -> ([u8; 5], [u8; WORD], [u8; WORD])
+    ensures { result ≡ (heads row.now, row.now.popped.symbols, row.now.pushed.symbols) }
+{
+    let heads = [row.from, row.letter, row.to, row.popped.len, row.pushed.len];
+    let popped = row.popped.symbols;
+    let pushed = row.pushed.symbols;
+    (heads, popped, pushed)
 }
 
 impl Entry for Row {
@@ -67,7 +81,7 @@ impl Entry for Row {
         ensures ranked { result ≡ rows.rank self.now other.now }
         ensures bytewise { lawful_row self.now ≡ true → lawful_row other.now ≡ true → result ≡ lexical (rows.encode self.now) (rows.encode other.now) }
     {
-        bytes_of(self).cmp(&bytes_of(other))
+        key(self).cmp(&key(other))
     }
 
     fn write(&self, out: &mut [u8], at: usize) -> bool {

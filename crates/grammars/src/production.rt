@@ -1,5 +1,5 @@
 //! Rules as entries: 12 bytes, ordered byte by byte from the first on.
-ghost use Rattle.std.specs.Prelude.{◌≡◌};
+ghost use Rattle.std.specs.Prelude.{◌≡◌, [], ◌∷◌};
 ghost use Rattle.machine.specs.Lists.{all};
 ghost use Rattle.grammars.specs.Productions.{productions, production_bytes, not_bottom};
 ghost use Rattle.grammars.specs.ProductionLaws.{productions_laws};
@@ -9,6 +9,8 @@ use entries::bytes::put_bytes;
 use entries::entry::Entry;
 use machine::row::Word;
 use std::cmp::Ordering;
+
+const WORD: usize = 10;
 
 const PRODUCTION: usize = 12;
 
@@ -36,6 +38,16 @@ fn bytes_of(production: &Production) -> [u8; PRODUCTION]
     bytes[1] = production.right.len;
     bytes[2..12].copy_from_slice(&production.right.symbols);
     bytes
+}
+
+// What rules are ordered by, which is the order of their bytes: the first two bytes, then the word.
+#[inline]
+fn key(production: &Production) -> ([u8; 2], [u8; WORD])
+    ensures { result ≡ (production.now.left ∷ (production.now.right.len ∷ []), production.now.right.symbols) }
+{
+    let heads = [production.left, production.right.len];
+    let symbols = production.right.symbols;
+    (heads, symbols)
 }
 
 // Whether the mark of the bottom stands nowhere in the bytes.
@@ -72,7 +84,7 @@ impl Entry for Production {
     }
 
     fn compare(&self, other: &Production) -> Ordering {
-        bytes_of(self).cmp(&bytes_of(other))
+        key(self).cmp(&key(other))
     }
 
     fn write(&self, out: &mut [u8], at: usize) -> bool {

@@ -24,10 +24,21 @@ pub struct Row {
 fn is_padded(len: u8, bytes: &[u8]) -> bool
     ensures { result ≡ padded len bytes.now }
 {
-    match bytes.split_at_checked(usize::from(len)) {
-        Some((word, rest)) => word.iter().all(|b| *b != 0) && rest.iter().all(|b| *b == 0),
-        None => false,
+    // a count by hand: chains of `all` over the parts or the places take twice as long on short words
+    let mut left = len;
+    for b in bytes {
+        if left == 0 {
+            if *b != 0 {
+                return false;
+            }
+        } else {
+            if *b == 0 {
+                return false;
+            }
+            left -= 1;
+        }
     }
+    left == 0
 }
 
 impl Word {

@@ -1,23 +1,29 @@
-use Rattle.std.proofs.Common.{rules, tests, eqb, sym, arith}
-use Rattle.std.proofs.lemmas.Iterator.{YieldsList-from_slice}
-use Rattle.std.proofs.lemmas.Iterator.Search.{all_from_yields_List}
+use Rattle.std.proofs.Common.{arith}
 use Rattle.std.proofs.lemmas.Bool.Decides.{nat_tests}
-use Rattle.machine.specs.Rows.{is_symbol}
-use Rattle.machine.proofs.Padding.{padded_split, padded_short}
+use Rattle.machine.proofs.Padding.{step_zero, step_more, at_end}
 use Rattle.machine.proofs.row.is_padded.Goals as goal
+use Rattle.machine.proofs.row.is_padded.Goals.{then-left-eq0+else-b-ne0, else-left-eq0+else-b-eq0}
 
-pub returns-then-all : goal.returns-then-all
-returns-then-all c =
-    let word = all_from_yields_List is_symbol _ _ c.all.result c.all.ensures.ran (YieldsList-from_slice c.in-Some.word.now cc) (λ x b q k. search (rules, tests)) in
-    let rest = all_from_yields_List (λ b. eqb b 0) _ _ c.all-then-all.result c.all-then-all.ensures.ran (YieldsList-from_slice c.in-Some.rest.now cc) (λ x b q k. search (rules, tests)) in
-    let p = padded_split c.args.len c.from.result c.args.bytes.now c.in-Some.word.now c.in-Some.rest.now c.from.ensures c.in-Some.ensures.cases in
+pub returns-then-b-ne0 : goal.returns-then-b-ne0
+returns-then-b-ne0 c =
+    let s = step_zero c.args.bytes.now c.loop-b.b-index c.loop-b-test.true in
     grind (arith, nat_tests)
 
-pub returns-else-all : goal.returns-else-all
-returns-else-all c =
-    let word = all_from_yields_List is_symbol _ _ c.all.result c.all.ensures.ran (YieldsList-from_slice c.in-Some.word.now cc) (λ x b q k. search (rules, tests)) in
-    let p = padded_split c.args.len c.from.result c.args.bytes.now c.in-Some.word.now c.in-Some.rest.now c.from.ensures c.in-Some.ensures.cases in
+pub returns-then-b-eq0 : goal.returns-then-b-eq0
+returns-then-b-eq0 c =
+    let s = step_more c.args.bytes.now c.loop-b.b-index c.loop-b-test.true c.loop-b.left (omega arith) in
     grind (arith, nat_tests)
 
-pub returns-in-None : goal.returns-in-None
-returns-in-None c = sym (padded_short c.args.len c.args.bytes.now (omega (arith, c.in-None.ensures.cases, c.from.ensures)))
+pub loop-b-preserved : goal.loop-b-preserved
+loop-b-preserved c =
+    elim c.if-left-eq0.branch [
+      | then-left-eq0+else-b-ne0 w ↦
+          let s = step_zero c.args.bytes.now c.loop-b.b-index c.loop-b-test.true in grind (arith, nat_tests)
+      | else-left-eq0+else-b-eq0 w ↦
+          let s = step_more c.args.bytes.now c.loop-b.b-index c.loop-b-test.true c.loop-b.left (omega arith) in grind (arith, nat_tests)
+    ]
+
+pub returns : goal.returns
+returns c =
+    let s = at_end c.args.bytes.now c.loop-b.b-index c.loop-b.left c.loop-b-test.false in
+    grind (arith, nat_tests)
